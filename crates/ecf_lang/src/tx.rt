@@ -1,5 +1,10 @@
 //! Transactions.
 
+ghost use Rattle.std.specs.Prelude.{◌≡◌, ◌↔◌, IsTrue};
+ghost use Rattle.ecf_lang.specs.Fits.{Fits, CallFits, ArgumentsFit, IsValue};
+
+use crate::tree::Ty;
+use crate::typed::Typed;
 use sqlite_items::Items;
 use std::sync::Arc;
 
@@ -23,3 +28,48 @@ pub struct TxCall {
 
 /// A transaction that several owners hold.
 pub type TxRef = Arc<Tx>;
+
+/// Whether the transaction can run on the contract: one to eight calls, of methods that their objects
+/// have, with arguments right in number and range, and a fuel limit from 1 to 1,000,000.
+pub fn fits(typed: &Typed, tx: &Tx) -> bool
+    ensures { IsTrue result ↔ Fits typed.now tx.now }
+{
+    let calls = tx.calls.as_slice();
+    1 <= calls.len()
+        && calls.len() <= 8
+        && 1 <= tx.fuel
+        && tx.fuel <= 1_000_000
+        && calls.iter().all(|call| call_fits(typed, call))
+}
+
+fn call_fits(typed: &Typed, call: &TxCall) -> bool
+    ensures { IsTrue result ↔ CallFits typed.now call.now }
+{
+    let has_method = typed.method(call.object, call.method).is_some();
+    match typed.signatures.get(usize::from(call.method)) {
+        Some(signature) => {
+            has_method && arguments_fit(typed, signature.params.as_slice(), call.args.as_slice())
+        }
+        None => false,
+    }
+}
+
+fn arguments_fit(typed: &Typed, params: &[Ty], args: &[u128]) -> bool
+    ensures { IsTrue result ↔ ArgumentsFit typed.now params.now args.now }
+{
+    params.len() == args.len()
+        && params
+            .iter()
+            .zip(args)
+            .all(|(ty, arg)| is_value(typed, *ty, *arg))
+}
+
+fn is_value(typed: &Typed, ty: Ty, value: u128) -> bool
+    ensures { IsTrue result ↔ IsValue typed.now ty value }
+{
+    match ty {
+        Ty::Num => true,
+        Ty::Flag => value < 2,
+        Ty::Addr => value < typed.objects.len() as u128,
+    }
+}

@@ -1,5 +1,9 @@
 //! A contract with its names looked up: objects, fields, maps, methods and locals are numbers.
 
+ghost use Rattle.std.specs.Prelude.{◌≡◌};
+ghost use Rattle.std.specs.Option.{option_copied};
+ghost use Rattle.ecf_lang.specs.Fits.{method_of, method_at};
+
 use crate::name::Name;
 use crate::tree::{Op, Ty};
 use sqlite_items::{Boxed, Items};
@@ -12,6 +16,15 @@ pub struct Typed {
     pub names: Items<Name>,
     /// The one signature that each method name has.
     pub signatures: Items<Signature>,
+}
+
+impl Typed {
+    /// The method of that name in the object of that number, if there are both.
+    pub fn method(&self, object: u8, name: u16) -> Option<&TypedMethod>
+        ensures { option_copied result ≡ method_at self.now object name }
+    {
+        self.objects.get(usize::from(object))?.method(name)
+    }
 }
 
 /// What a method takes and answers.
@@ -27,6 +40,18 @@ pub struct TypedObject {
     pub name: Name,
     pub fields: Items<TypedField>,
     pub methods: Items<TypedMethod>,
+}
+
+impl TypedObject {
+    /// The method of that name, if the object has it.
+    pub fn method(&self, name: u16) -> Option<&TypedMethod>
+        ensures { option_copied result ≡ method_of self.now name }
+    {
+        self.methods
+            .as_slice()
+            .iter()
+            .find(|method| method.name == name)
+    }
 }
 
 /// A plain field or a map.
