@@ -1,12 +1,11 @@
 -- What it takes for a transaction to fit a contract.
-use Rattle.std.specs.Prelude.{◌≡◌, ◌==◌, ℕ, ◌^◌, ◌<◌, ◌≤◌, List, [], ◌∷◌, length, find, slice_get, Option, Some, None, option_and_then, IsSome, All, MatchOption}
+use Rattle.std.specs.Prelude.{◌==◌, ℕ, ◌^◌, ◌<◌, ◌≤◌, List, length, find, slice_get, Option, option_and_then, IsSome, All, MatchOption}
 use Rattle.std.specs.List.{AllZip}
 use Rattle.ecf_lang.specs.declared.tree.Ty.{Ty}
 use Rattle.ecf_lang.specs.declared.tree.Ty.TheVariants.{Num, Flag, Addr}
 use Rattle.ecf_lang.specs.declared.typed.Typed.{Typed}
 use Rattle.ecf_lang.specs.declared.typed.TypedObject.{TypedObject}
 use Rattle.ecf_lang.specs.declared.typed.TypedMethod.{TypedMethod}
-use Rattle.ecf_lang.specs.declared.typed.Signature.{Signature}
 use Rattle.ecf_lang.specs.declared.tx.Tx.{Tx}
 use Rattle.ecf_lang.specs.declared.tx.TxCall.{TxCall}
 

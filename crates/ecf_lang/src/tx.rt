@@ -57,11 +57,13 @@ fn call_fits(typed: &Typed, call: &TxCall) -> bool
 fn arguments_fit(typed: &Typed, params: &[Ty], args: &[u128]) -> bool
     ensures { IsTrue result ↔ ArgumentsFit typed.now params.now args.now }
 {
-    params.len() == args.len()
-        && params
-            .iter()
-            .zip(args)
-            .all(|(ty, arg)| is_value(typed, *ty, *arg))
+    let Some((ty, other_params)) = params.split_first() else {
+        return args.is_empty();
+    };
+    let Some((arg, other_args)) = args.split_first() else {
+        return false;
+    };
+    is_value(typed, *ty, *arg) && arguments_fit(typed, other_params, other_args)
 }
 
 fn is_value(typed: &Typed, ty: Ty, value: u128) -> bool
