@@ -7,6 +7,7 @@ use Rattle.ecf_lang.specs.declared.run.Cause.{Cause}
 use Rattle.ecf_lang.specs.declared.run.Cause.TheVariants.{User, Overflow, DivZero, NoMethod, Depth, Calls}
 use Rattle.ecf_lang.specs.declared.run.Outcome.{Outcome}
 use Rattle.ecf_lang.specs.declared.run.Outcome.TheVariants.{Answer, Reverted, OutOfFuel}
+use Rattle.ecf_lang.specs.declared.run.Run.{Run}
 use Rattle.ecf_lang.specs.declared.tree.Op.{Op}
 use Rattle.ecf_lang.specs.declared.tree.Op.TheVariants.{Add, Sub, Mul, Div, Rem, Eq, Ne, Lt, Le, Gt, Ge}
 use Rattle.ecf_lang.specs.declared.typed.Place.{Place}
@@ -339,3 +340,9 @@ ran store limit (Halts halt state) = record {
 -- the run of a transaction on a store
 unfoldable pub run : Typed → Store → Tx → Ran
 run typed store tx = ran store tx.fuel (calls_of typed store tx.calls (fresh tx.fuel))
+
+-- a run as a program keeps it: all but the store after it, which is the store before it with the writes
+abbrev pub recorded : Ran → Run
+recorded r = record {
+    outcome = r.outcome; fuel = r.fuel; steps = r.steps; invocations = r.invocations; reads = r.reads; writes = r.writes
+  }
