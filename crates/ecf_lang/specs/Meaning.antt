@@ -344,5 +344,10 @@ run typed store tx = ran store tx.fuel (calls_of typed store tx.calls (fresh tx.
 -- a run as a program keeps it: all but the store after it, which is the store before it with the writes
 abbrev pub recorded : Ran → Run
 recorded r = record {
-    outcome = r.outcome; fuel = r.fuel; steps = r.steps; invocations = r.invocations; reads = r.reads; writes = r.writes
-  }
+  outcome = r.outcome;
+  fuel = r.fuel;
+  steps = r.steps;
+  invocations = r.invocations;
+  reads = r.reads;
+  writes = r.writes;
+}
