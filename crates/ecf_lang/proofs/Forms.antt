@@ -100,7 +100,7 @@ module _ (store : Store) (frame : Frame) where
   pub stmt_set_at : (field : ℕ) (key e : TypedExpr) (locals : List ℕ) (s : State) → stmt_does (stmt.SetAt field key e) locals s ≡ (charge store frame 1 >> (value_at store frame key locals >>= (λ k. value_at store frame e locals >>= (λ v. charge store frame 4 >> (write_cell frame.inv (own store frame field k) v >> pure (On locals)))))) s
   stmt_set_at field key e locals s = ap (λ t. stmt_does t locals s) (sym (stmt.rolls-SetAt field key e)) ∙ ap (λ f. f locals s) (stmt_roll _)
 
-  pub stmt_while : (cond : TypedExpr) (body : TypedBlock) (locals : List ℕ) (s : State) → stmt_does (stmt.While cond body) locals s ≡ (charge store frame 1 >> (λ state. turns store frame state.fuel cond (block body) locals state)) s
+  pub stmt_while : (cond : TypedExpr) (body : TypedBlock) (locals : List ℕ) (s : State) → stmt_does (stmt.While cond body) locals s ≡ (charge store frame 1 >> (λ state. turns store frame (suc state.fuel) cond (block body) locals state)) s
   stmt_while cond body locals s = ap (λ t. stmt_does t locals s) (sym (stmt.rolls-While cond body)) ∙ ap (λ f. f locals s) (stmt_roll _)
 
   pub stmt_return : (e : TypedExpr) (locals : List ℕ) (s : State) → stmt_does (stmt.Return e) locals s ≡ (charge store frame 1 >> (value_at store frame e locals >>= (λ v. pure (Back v)))) s
