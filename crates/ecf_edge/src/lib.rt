@@ -1,0 +1,10 @@
+//! The edge of the host: what it reads, writes and fetches, as traits whose contracts say what is known of the bytes
+//! and count the faults, and objects in memory that stand for the outside in tests.
+#![tactic(auto)]
+
+mod gate;
+mod plan;
+mod source;
+
+pub use gate::{Gate, OpenGate, Point};
+pub use source::{Failed, MemSource, Source, SureSource};
