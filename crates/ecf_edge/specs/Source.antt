@@ -1,40 +1,44 @@
 -- What reads take from a source, and what a source in memory gives.
-use Rattle.std.specs.Prelude.{ℕ, ◌≡◌, Bool, List, [], ◌++◌, length, take, drop, min, Option, if◌then◌else◌, IfSome}
-use Rattle.std.specs.Option.{option_map}
+use Rattle.std.specs.Prelude.{ℕ, ◌≡◌, Bool, List, [], ◌++◌, length, take, drop, min, Option, None, Some, if◌then◌else◌, IfSome}
 use Rattle.ecf_edge.specs.Plan.{Plan, next_fails, after_call}
 
--- the source gave this piece: what was left is the piece and then what is left now, told both before and after or at neither
+-- this piece and then what is left, where it is told
+abbrev pub prepended : List ℕ → Option (List ℕ) → Option (List ℕ)
+prepended piece None = None
+prepended piece (Some left) = Some (piece ++ left)
+
+-- what was left is this piece and then what is left now, told both before and after or at neither
 abbrev pub Gave : Option (List ℕ) → List ℕ → Option (List ℕ) → Type 0
-Gave before piece after = before ≡ option_map (λ rest. piece ++ rest) after
+Gave before piece after = before ≡ prepended piece after
 
 -- where it is told, nothing is left
 abbrev pub IsAtEnd : Option (List ℕ) → Type 0
 IsAtEnd left = IfSome left (λ bytes. bytes ≡ [])
 
 -- a source in memory: the bytes left, and the most that one read gives
-pub record Stepwise : Type 0 where
+pub record StepSource : Type 0 where
   pub left : List ℕ
   pub step : ℕ
 
 -- how many bytes a read gives into so much room
-abbrev pub given : Stepwise → ℕ → ℕ
+abbrev pub given : StepSource → ℕ → ℕ
 given source room = min source.step (min room (length source.left))
 
 -- the buffer after a read: the bytes given, and then what it had
-abbrev pub filled : Stepwise → List ℕ → List ℕ
+abbrev pub filled : StepSource → List ℕ → List ℕ
 filled source buffer = let n = given source (length buffer) in take n source.left ++ drop n buffer
 
 -- the source after a read into so much room
-abbrev pub after_read : Stepwise → ℕ → Stepwise
+abbrev pub after_read : StepSource → ℕ → StepSource
 after_read source room = record { left = drop (given source room) source.left; step = source.step }
 
 -- a source in memory some of whose reads fail
-pub record Faulty : Type 0 where
-  pub source : Stepwise
+pub record FaultySource : Type 0 where
+  pub source : StepSource
   pub plan : Plan
 
 -- after a read into so much room: a read that fails gives nothing
-abbrev pub after_faulty_read : Faulty → ℕ → Faulty
+abbrev pub after_faulty_read : FaultySource → ℕ → FaultySource
 after_faulty_read s room = record {
   source = if next_fails s.plan then s.source else after_read s.source room;
   plan = after_call s.plan;

@@ -4,7 +4,11 @@
 
 mod gate;
 mod plan;
+mod shelf;
+mod sink;
 mod source;
 
 pub use gate::{Gate, OpenGate, Point};
+pub use shelf::{Fetch, MemShelf, Shelf, SureShelf};
+pub use sink::{MemSink, Sink, SureSink, WriteFault, put_all};
 pub use source::{Failed, MemSource, Source, SureSource};

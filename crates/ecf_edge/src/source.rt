@@ -42,9 +42,9 @@ pub struct SureSource {
 
 impl Model for SureSource {
     ghost use Rattle.std.specs.Prelude.{length, drop, ◌≤◌, ◌<◌};
-    ghost use Rattle.ecf_edge.specs.Source.{Stepwise};
+    ghost use Rattle.ecf_edge.specs.Source.{StepSource};
 
-    ghost Value = { Stepwise };
+    ghost Value = { StepSource };
 
     ghost view = { λ s. record { left = drop s.at s.bytes.items; step = s.step } };
 
@@ -109,9 +109,9 @@ pub struct MemSource {
 }
 
 impl Model for MemSource {
-    ghost use Rattle.ecf_edge.specs.Source.{Faulty};
+    ghost use Rattle.ecf_edge.specs.Source.{FaultySource};
 
-    ghost Value = { Faulty };
+    ghost Value = { FaultySource };
 
     ghost view = { λ s. record { source = s.source; plan = s.plan } };
 }
