@@ -11,6 +11,10 @@ prepended piece (Some left) = Some (piece ++ left)
 abbrev pub Gave : Option (List ℕ) → List ℕ → Option (List ℕ) → Type 0
 Gave before piece after = before ≡ prepended piece after
 
+-- what was left is some piece and then what is left now
+abbrev pub GaveSome : Option (List ℕ) → Option (List ℕ) → Type 0
+GaveSome before after = (piece : List ℕ) × Gave before piece after
+
 -- where it is told, nothing is left
 abbrev pub IsAtEnd : Option (List ℕ) → Type 0
 IsAtEnd left = IfSome left (λ bytes. bytes ≡ [])

@@ -11,4 +11,4 @@ mod source;
 pub use gate::{Gate, OpenGate, Point};
 pub use shelf::{Fetch, MemShelf, Shelf, SureShelf};
 pub use sink::{MemSink, Sink, SureSink, WriteFault, put_all};
-pub use source::{Failed, MemSource, Source, SureSource};
+pub use source::{Ending, Failed, MemSource, Reading, Source, SureSource, read_all};

@@ -1,10 +1,11 @@
 //! Sources of bytes: the trait, two sources in memory, and a call that reads a source to its end.
-ghost use Rattle.std.specs.Prelude.{◌≡◌, ℕ, ◌≤◌, ◌<◌, ◌+◌, List, Option, length, take, Some, IfOk, OnErr, IsErr, MatchBool, if◌then◌else◌};
+ghost use Rattle.std.specs.Prelude.{◌≡◌, ℕ, ◌≤◌, ◌<◌, ◌+◌, List, Option, length, take, Some, IfOk, OnErr, IsErr, MatchBool, if◌then◌else◌, ◌↔◌};
 ghost use Rattle.ecf_edge.specs.Count.{Rose};
 ghost use Rattle.ecf_edge.specs.Plan.{fresh_plan, next_fails};
-ghost use Rattle.ecf_edge.specs.Source.{Gave, IsAtEnd, given, filled, after_read, after_faulty_read};
+ghost use Rattle.ecf_edge.specs.Source.{Gave, GaveSome, IsAtEnd, given, filled, after_read, after_faulty_read};
 
 use crate::plan::FaultPlan;
+use std::alloc::{AllocError, Global};
 use std::marker::Model;
 use thiserror::Error;
 
@@ -30,6 +31,67 @@ pub trait Source {
         ensures fault_counted { OnErr result (Rose (faults self.old) (faults self.new)) }
         ensures fault_keeps { OnErr result (left self.new ≡ left self.old) }
         ensures never_falls { faults self.old ≤ faults self.new };
+}
+
+/// The most bytes that `read_all` asks of one read.
+const PIECE: usize = 65_536;
+
+/// Why `read_all` stopped reading.
+#[derive(Clone, Copy, Debug, PartialEq, Eq)]
+pub enum Ending {
+    /// The source came to its end.
+    End,
+    /// More bytes came than were allowed.
+    OverLimit,
+    /// A read failed.
+    Failed,
+}
+
+/// What `read_all` read, and why it stopped.
+#[derive(Debug, Drop)]
+pub struct Reading {
+    /// The bytes that came, in order.
+    pub bytes: Vec<u8>,
+    /// Why no more were read.
+    pub ending: Ending,
+}
+
+/// Reads a source to its end, to one byte over `most`, or to a failed read. Each read asks for at most 65,536 bytes.
+/// After a want of memory some bytes may have been read, and they are lost.
+pub fn read_all<S: Source>(
+    alloc: Global,
+    source: &mut S,
+    most: usize,
+) -> Result<Reading, AllocError>
+    ensures bytes { IfOk result (λ r. Gave (S.left source.old) r.bytes.items (S.left source.new)) }
+    ensures end { IfOk result (λ r. r.ending ≡ Ending.End → IsAtEnd (S.left source.new)) }
+    ensures over_limit { IfOk result (λ r. (r.ending ≡ Ending.OverLimit) ↔ (length r.bytes.items ≡ most + 1)) }
+    ensures bound { IfOk result (λ r. length r.bytes.items ≤ most + 1) }
+    ensures failed { IfOk result (λ r. r.ending ≡ Ending.Failed → Rose (S.faults source.old) (S.faults source.new)) }
+    ensures never_falls { S.faults source.old ≤ S.faults source.new }
+    ensures lost { OnErr result (GaveSome (S.left source.old) (S.left source.new)) }
+{
+    let mut bytes = Vec::new(alloc);
+    let mut buffer = vec![in alloc; 0; most.min(PIECE - 1) + 1]?;
+    while bytes.len() <= most {
+        let wanted = (most - bytes.len()).min(PIECE - 1) + 1;
+        let piece = &mut buffer[..wanted];
+        match source.read(piece) {
+            Ok(0) => return Ok(Reading {
+                bytes,
+                ending: Ending::End,
+            }),
+            Ok(count) => bytes.extend_from_slice(&piece[..count])?,
+            Err(Failed) => return Ok(Reading {
+                bytes,
+                ending: Ending::Failed,
+            }),
+        }
+    }
+    Ok(Reading {
+        bytes,
+        ending: Ending::OverLimit,
+    })
 }
 
 /// A source in memory none of whose reads fails. Each gives as much as there is room for, at most `step` bytes.
