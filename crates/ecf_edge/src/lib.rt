@@ -12,3 +12,6 @@ pub use gate::{Gate, OpenGate, Point};
 pub use shelf::{Fetch, MemShelf, Shelf, SureShelf};
 pub use sink::{MemSink, Sink, SureSink, WriteFault, put_all};
 pub use source::{Ending, Failed, MemSource, Reading, Source, SureSource, read_all};
+
+#[cfg(test)]
+mod tests;

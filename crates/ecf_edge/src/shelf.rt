@@ -1,5 +1,5 @@
 //! Shelves of named contents: the trait, and two shelves in memory.
-ghost use Rattle.std.specs.Prelude.{◌≡◌, ℕ, ◌≤◌, ◌<◌, List, Option, length, vec_len, Some, IfOk, IsErrOf};
+ghost use Rattle.std.specs.Prelude.{◌≡◌, ◌≢◌, ℕ, ◌≤◌, ◌<◌, List, Option, length, vec_len, Some, IfOk, IsErrOf};
 ghost use Rattle.std.specs.Option.{option_copied};
 ghost use Rattle.ecf_edge.specs.Count.{Rose};
 ghost use Rattle.ecf_edge.specs.Plan.{fresh_plan};
@@ -128,7 +128,7 @@ impl Shelf for SureShelf {
         ensures absence_counted { IsErrOf result Fetch.Missing → Rose self.old.absences self.new.absences }
         ensures too_long { IsErrOf result Fetch.TooLong → HoldsMoreUnder (Some self.old.files) name.now most }
         ensures missing { IsErrOf result Fetch.Missing → HoldsNoneUnder (Some self.old.files) name.now }
-        ensures never_failed { IsErrOf result Fetch.Failed → ⊥ }
+        ensures never_failed { result ≢ Err Fetch.Failed }
         ensures long_answers_never_fall { self.old.long_answers ≤ self.new.long_answers }
         ensures absences_never_fall { self.old.absences ≤ self.new.absences }
     {
