@@ -1,5 +1,5 @@
 -- How the clauses of calls in a row join: texts that a sink took, pieces that a source gave, counts that rose.
-use Rattle.std.proofs.Common.{ℕ, ◌≡◌, ◌+◌, ◌-◌, ◌≤◌, List, [], ◌++◌, length, take, drop, Option, None, Some, refl, sym, ap, ◌∙◌, arith, append_assoc, append-nil, take-append-drop}
+use Rattle.std.proofs.Common.{ℕ, ◌≡◌, ◌+◌, ◌-◌, ◌≤◌, List, [], ◌++◌, length, take, drop, Option, None, Some, refl, sym, ap, ◌∙◌, arith, append_assoc, append-nil, take-append-drop, length-append, IfSome}
 use Rattle.std.proofs.lemmas.List.{take_rest}
 use Rattle.std.proofs.Math.Seq.{take-add}
 use Rattle.ecf_edge.specs.Count.{Rose}
@@ -80,7 +80,21 @@ Gave-nil left = sym (prepended-nil left)
 pub Gave-append : (a b c : Option (List ℕ)) (s t : List ℕ) → Gave a s b → Gave b t c → Gave a (s ++ t) c
 Gave-append a b c s t p q = p ∙ ap (λ left. prepended s left) q ∙ sym (prepended-append s t c)
 
--- all that was left, where nothing is left now
-pub Gave-all : (bytes piece : List ℕ) (left : Option (List ℕ)) → Gave (Some bytes) piece left → IsAtEnd left → bytes ≡ piece
-Gave-all bytes piece None p q = cc
-Gave-all bytes piece (Some left) p q = let whole : bytes ≡ piece ++ left = cc in whole ∙ ap (λ rest. piece ++ rest) q ∙ append-nil piece
+-- the piece is all that was left, where nothing is left now
+pub Gave-all : (before after : Option (List ℕ)) (piece : List ℕ) → Gave before piece after → IsAtEnd after → IfSome before (λ bytes. piece ≡ bytes)
+Gave-all None after piece p q = tt
+Gave-all (Some bytes) None piece p q = cc
+Gave-all (Some bytes) (Some left) piece p q =
+    let whole : bytes ≡ piece ++ left = cc in
+    sym (whole ∙ ap (λ rest. piece ++ rest) q ∙ append-nil piece)
+
+-- as many bytes were left as came, at least
+pub Gave-count : (before after : Option (List ℕ)) (piece : List ℕ) (n : ℕ) → Gave before piece after → n ≤ length piece → IfSome before (λ bytes. n ≤ length bytes)
+Gave-count None after piece n p q = tt
+Gave-count (Some bytes) None piece n p q = cc
+Gave-count (Some bytes) (Some left) piece n p q =
+    let whole : bytes ≡ piece ++ left = cc in
+    rw (whole, length-append) (omega arith)
+
+-- what a proof of calls in a row may need
+pub ruleset chains = (Rose-between, Grew-nil, Grew-append, GrewByPrefix-whole, GrewByPrefix-none, GrewByPrefix-longer, GrewByPrefix-append, Gave-nil, Gave-append)

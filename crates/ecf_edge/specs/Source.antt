@@ -1,5 +1,5 @@
 -- What reads take from a source, and what a source in memory gives.
-use Rattle.std.specs.Prelude.{ℕ, ◌≡◌, Bool, List, [], ◌++◌, length, take, drop, min, Option, None, Some, if◌then◌else◌, IfSome}
+use Rattle.std.specs.Prelude.{ℕ, ◌≡◌, List, [], ◌++◌, length, take, drop, min, Option, None, Some, if◌then◌else◌, IfSome}
 use Rattle.ecf_edge.specs.Plan.{Plan, next_fails, after_call}
 
 -- this piece and then what is left, where it is told

@@ -1,5 +1,5 @@
 //! Sources of bytes: the trait, two sources in memory, and a call that reads a source to its end.
-ghost use Rattle.std.specs.Prelude.{◌≡◌, ℕ, ◌≤◌, ◌<◌, ◌+◌, List, Option, length, take, Some, IfOk, OnErr, IsErr, MatchBool, if◌then◌else◌, ◌≢◌};
+ghost use Rattle.std.specs.Prelude.{◌≡◌, ℕ, ◌≤◌, ◌<◌, ◌+◌, List, Option, length, take, Some, IfSome, IfOk, OnErr, IsErr, MatchBool, if◌then◌else◌, ◌≢◌};
 ghost use Rattle.ecf_edge.specs.Count.{Rose};
 ghost use Rattle.ecf_edge.specs.Plan.{fresh_plan, next_fails};
 ghost use Rattle.ecf_edge.specs.Source.{Gave, GaveSome, IsAtEnd, given, filled, after_read, after_faulty_read};
@@ -64,12 +64,19 @@ pub fn read_all<S: Source>(
     most: usize,
 ) -> Result<Reading, AllocError>
     ensures bytes { IfOk result (λ r. Gave (S.left source.old) r.bytes.items (S.left source.new)) }
+
+    // What each ending says.
     ensures end { IfOk result (λ r. r.ending ≡ Ending.End → IsAtEnd (S.left source.new)) }
     ensures over_limit { IfOk result (λ r. r.ending ≡ Ending.OverLimit → length r.bytes.items ≡ most + 1) }
     ensures within_limit { IfOk result (λ r. r.ending ≢ Ending.OverLimit → length r.bytes.items ≤ most) }
     ensures failed { IfOk result (λ r. r.ending ≡ Ending.Failed → Rose (S.faults source.old) (S.faults source.new)) }
-    ensures never_falls { S.faults source.old ≤ S.faults source.new }
+
+    // What follows for a source that tells what it had.
+    ensures whole { IfOk result (λ r. r.ending ≡ Ending.End → IfSome (S.left source.old) (λ all. r.bytes.items ≡ all)) }
+    ensures too_many { IfOk result (λ r. r.ending ≡ Ending.OverLimit → IfSome (S.left source.old) (λ all. most < length all)) }
+
     ensures lost { OnErr result (GaveSome (S.left source.old) (S.left source.new)) }
+    ensures never_falls { S.faults source.old ≤ S.faults source.new }
 {
     let mut bytes = Vec::new(alloc);
     let mut buffer = vec![in alloc; 0; most.min(PIECE - 1) + 1]?;
