@@ -52,7 +52,7 @@ pub trait Sink {
 /// `NoMemory` comes only from a write that answered it.
 pub fn put_all<K: Sink>(sink: &mut K, bytes: &[u8]) -> Result<(), WriteFault>
     ensures all { OnOk result (Grew (K.held sink.old) bytes.now (K.held sink.new)) }
-    ensures prefix { OnErr result (GrewByPrefix (K.held sink.old) bytes.now (K.held sink.new)) }
+    ensures prefix { GrewByPrefix (K.held sink.old) bytes.now (K.held sink.new) }
     ensures fault_counted { IsErrOf result WriteFault.Failed → Rose (K.faults sink.old) (K.faults sink.new) }
     ensures never_falls { K.faults sink.old ≤ K.faults sink.new }
 {
