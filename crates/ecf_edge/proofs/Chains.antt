@@ -55,7 +55,7 @@ GrewByPrefix-append a b c s t p q = record {
   grew = Grew-append a b c s q.written p q.grew;
 }
 
--- a first part of what is behind this place, after what is before it
+-- the first n bytes of a text are a first part of it
 pub GrewByPrefix-take : (a b : Option (List ℕ)) (n : ℕ) (text : List ℕ) → Grew a (take n text) b → GrewByPrefix a text b
 GrewByPrefix-take a b n text p = record { written = take n text; rest = drop n text; whole = sym (take-append-drop n text); grew = p }
 

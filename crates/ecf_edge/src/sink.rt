@@ -1,5 +1,5 @@
 //! Sinks of bytes: the trait, two sinks in memory, and a call that writes a whole text.
-ghost use Rattle.std.specs.Prelude.{◌≡◌, ℕ, ◌≤◌, ◌<◌, ◌+◌, List, [], Option, length, take, Some, IfOk, OnOk, OnErr, IsErrOf, MatchBool, MatchResult, if◌then◌else◌};
+ghost use Rattle.std.specs.Prelude.{◌≡◌, ◌≢◌, ℕ, ◌≤◌, ◌<◌, ◌+◌, List, [], Option, length, take, Some, IfOk, OnOk, OnErr, IsErrOf, MatchBool, MatchResult, if◌then◌else◌};
 ghost use Rattle.ecf_edge.specs.Count.{Rose};
 ghost use Rattle.ecf_edge.specs.Plan.{fresh_plan, next_fails, after_call};
 ghost use Rattle.ecf_edge.specs.Sink.{Grew, GrewByPrefix, taken, with_more};
@@ -48,8 +48,8 @@ pub trait Sink {
         ensures never_falls { faults self.old ≤ faults self.new };
 }
 
-/// Writes all of `bytes`, in as many writes as it takes, or up to the first fault. It takes no memory of its own, so
-/// `NoMemory` comes only from a write that answered it.
+/// Writes all of `bytes`, in as many writes as it takes, or a first part of them up to the first fault. It takes no memory
+/// of its own, so `NoMemory` comes only from a write that answered it.
 pub fn put_all<K: Sink>(sink: &mut K, bytes: &[u8]) -> Result<(), WriteFault>
     ensures all { OnOk result (Grew (K.held sink.old) bytes.now (K.held sink.new)) }
     ensures prefix { GrewByPrefix (K.held sink.old) bytes.now (K.held sink.new) }
@@ -115,6 +115,7 @@ impl Sink for SureSink {
         ensures bound { IfOk result (λ n. n ≤ length piece.now) }
         ensures progress { IfOk result (λ n. 0 < length piece.now → 0 < n) }
         ensures appends { IfOk result (λ n. Grew (Some self.old.held) (take n piece.now) (Some self.new.held)) }
+        ensures never_failed { result ≢ Err WriteFault.Failed }
         ensures fault_keeps { OnErr result (self.new.held ≡ self.old.held) }
     {
         let count = self.step.min(piece.len());
