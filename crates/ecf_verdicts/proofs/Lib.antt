@@ -1,0 +1,5 @@
+pub mod CasesProved
+pub mod Conflict
+pub mod Lists
+pub mod Place
+pub mod Single

@@ -1,0 +1,15 @@
+-- When callbacks did no harm: swaps can bring the steps of each invocation together.
+use Rattle.std.specs.Prelude.{◌≡◌, ℕ, ◌<◌, List, length, slice_index_or, Some}
+use Rattle.ecf_lang.specs.declared.run.Step.{Step}
+use Rattle.ecf_verdicts.specs.Swaps.{swaps}
+
+-- between two steps of one invocation stand only its steps
+pub record IsTogether (t : List Step) : Type 0 where
+  pub between : (i j k : ℕ) (d : Step) → i < j → j < k → k < length t → (slice_index_or t i d).inv ≡ (slice_index_or t k d).inv → (slice_index_or t j d).inv ≡ (slice_index_or t i d).inv
+
+-- some list of places, swapped one after the other, leaves a trace that is together
+pub record Free (t : List Step) : Type 0 where
+  pub places : List ℕ
+  pub result : List Step
+  pub swapped : swaps t places ≡ Some result
+  pub together : IsTogether result

@@ -1,0 +1,10 @@
+pub mod Before
+pub mod Cases
+pub mod Conflicts
+pub mod Cycles
+pub mod Free
+pub mod Laws
+pub mod Placing
+pub mod Swaps
+pub mod Traces
+pub mod Verdicts
