@@ -1,5 +1,10 @@
 pub mod CasesProved
 pub mod Conflict
+pub mod FreePlaced
 pub mod Lists
+pub mod Members
 pub mod Place
+pub mod Ranks
 pub mod Single
+pub mod Sorting
+pub mod Swapped

@@ -3,7 +3,17 @@
 #![tactic(auto)]
 
 ghost use Rattle.ecf_verdicts.specs.Cases.{PaysFirst};
-ghost use Rattle.ecf_verdicts.specs.Laws.{SingleApproved};
+ghost use Rattle.ecf_verdicts.specs.Laws.{FreeExactlyWherePlaced, SingleApproved, SingleFree};
+
+/// Swaps can bring the steps of each invocation together exactly where all invocations can be placed.
+pub fn free_exactly_where_placed()
+    ensures { FreeExactlyWherePlaced }
+{}
+
+/// A trace of one invocation is free.
+pub fn single_free()
+    ensures { SingleFree }
+{}
 
 /// Steps of one invocation are approved, with no orders.
 pub fn single_approved()
