@@ -1,3 +1,4 @@
+pub mod AtLaws
 pub mod CasesProved
 pub mod Conflict
 pub mod FreePlaced
@@ -7,4 +8,6 @@ pub mod Place
 pub mod Ranks
 pub mod Single
 pub mod Sorting
+pub mod SwapLaws
 pub mod Swapped
+pub mod VerdictLaws

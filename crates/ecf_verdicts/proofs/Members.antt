@@ -8,7 +8,7 @@ use Rattle.ecf_verdicts.proofs.Conflict.{IsBefore}
 use Rattle.ecf_verdicts.proofs.Lists.{Has, In, In_filter, In_filter_from}
 
 -- where a number goes in a rising list
-join_cases : (i j : ℕ) (js : List ℕ) (P : List ℕ → Type 0) → (i < j → P (i ∷ j ∷ js)) → (i ≡ j → P (j ∷ js)) → (j < i → P (j ∷ join i js)) → P (join i (j ∷ js))
+pub join_cases : (i j : ℕ) (js : List ℕ) (P : List ℕ → Type 0) → (i < j → P (i ∷ j ∷ js)) → (i ≡ j → P (j ∷ js)) → (j < i → P (j ∷ join i js)) → P (join i (j ∷ js))
 unfolding join
 join_cases i j js P less same more = elim (cases_order i j) [
   | inl e ↦ rw (le-ltb i j (omega arith), eq-eqb i j e) (same e)

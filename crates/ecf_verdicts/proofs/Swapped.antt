@@ -55,7 +55,7 @@ and_none : (x : Bool) → (x && false) ≡ false
 and_none true = refl
 and_none false = refl
 
-eqb_sym : (x y : ℕ) → eqb x y ≡ eqb y x
+pub eqb_sym : (x y : ℕ) → eqb x y ≡ eqb y x
 eqb_sym x y = search (rules, arith)
 
 or_sym : (x y : Bool) → (x || y) ≡ (y || x)

@@ -1,9 +1,15 @@
 -- What the definitions promise.
-use Rattle.std.specs.Prelude.{◌≡◌, ◌↔◌, ℕ, List, [], All}
+use Rattle.std.specs.Prelude.{◌≡◌, ◌↔◌, ◌≢◌, ◌==◌, ◌<◌, ◌≤◌, ◌+◌, ◌-◌, ℕ, true, List, [], All, AllPairs, Contains, IsPermutation, Some, filter, length, slice_index, slice_index_or, take}
+use Rattle.ecf_lang.specs.declared.receipt.Order.{Order}
 use Rattle.ecf_lang.specs.declared.run.Step.{Step}
+use Rattle.ecf_verdicts.specs.Before.{before}
+use Rattle.ecf_verdicts.specs.Conflicts.{conflicts}
+use Rattle.ecf_verdicts.specs.Cycles.{at, cycle}
 use Rattle.ecf_verdicts.specs.Free.{Free}
 use Rattle.ecf_verdicts.specs.Placing.{placing}
-use Rattle.ecf_verdicts.specs.Verdicts.{Approved, verdict}
+use Rattle.ecf_verdicts.specs.Swaps.{swaps}
+use Rattle.ecf_verdicts.specs.Traces.{members, trace}
+use Rattle.ecf_verdicts.specs.Verdicts.{Approved, Vetoed, verdict}
 
 -- a trace is free exactly where the placing leaves no rest
 abbrev pub FreeExactlyWherePlaced : Type 0
@@ -16,3 +22,73 @@ SingleFree = (t : List Step) (inv : ℕ) → All (λ s. s.inv ≡ inv) t → Fre
 -- steps of one invocation are approved, with no orders
 abbrev pub SingleApproved : Type 0
 SingleApproved = (steps : List Step) (inv : ℕ) → All (λ s. s.inv ≡ inv) steps → verdict steps ≡ Approved []
+
+-- legal swaps only move the steps
+abbrev pub SwapsPermute : Type 0
+SwapsPermute = (t : List Step) (places : List ℕ) (u : List Step) → swaps t places ≡ Some u → IsPermutation t u
+
+-- legal swaps keep the order of each invocation's steps
+abbrev pub SwapsKeepInvocations : Type 0
+SwapsKeepInvocations = (t : List Step) (places : List ℕ) (u : List Step) → swaps t places ≡ Some u → (inv : ℕ) → filter (λ s. s.inv == inv) u ≡ filter (λ s. s.inv == inv) t
+
+-- legal swaps keep which invocation is before which
+abbrev pub SwapsKeepBefore : Type 0
+SwapsKeepBefore = (t : List Step) (places : List ℕ) (u : List Step) → swaps t places ≡ Some u → (i j : ℕ) → before u i j ≡ before t i j
+
+-- legal swaps can be undone by legal swaps
+abbrev pub SwapsUndone : Type 0
+SwapsUndone = (t : List Step) (places : List ℕ) (u : List Step) → swaps t places ≡ Some u → (back : List ℕ) × (swaps u back ≡ Some t)
+
+-- each first part of a free trace is free
+abbrev pub FirstPartsFree : Type 0
+FirstPartsFree = (t : List Step) → Free t → (n : ℕ) → Free (take n t)
+
+-- two places of the trace, the first earlier, whose steps are of i and of j and conflict
+abbrev pub ConflictsInOrder : List Step → ℕ → ℕ → Type 0
+ConflictsInOrder t i j = (p : ℕ) × (q : ℕ) × (p < q) × (q < length t) × ((d : Step) → ((slice_index_or t p d).inv ≡ i) × ((slice_index_or t q d).inv ≡ j) × (conflicts (slice_index_or t p d) (slice_index_or t q d) ≡ true))
+
+-- "before" says exactly that there are such places
+abbrev pub BeforeExactlyWhere : Type 0
+BeforeExactlyWhere = (t : List Step) (i j : ℕ) → (before t i j ≡ true) ↔ ConflictsInOrder t i j
+
+-- the placed invocations are distinct and have steps
+abbrev pub PlacesMembers : Type 0
+PlacesMembers = (t : List Step) → AllPairs (λ i j. i ≢ j) (placing t).placed × All (Contains (members t)) (placing t).placed
+
+-- whatever is before a placed invocation is placed earlier
+abbrev pub PlacedKeepsBefore : Type 0
+PlacedKeepsBefore = (t : List Step) (k i : ℕ) → k < length (placing t).placed → before t i (slice_index (placing t).placed k) ≡ true → (m : ℕ) × (m < k) × (slice_index (placing t).placed m ≡ i)
+
+-- each member is placed or in the rest, and each of the rest has one of the rest before it
+abbrev pub RestIsStuck : Type 0
+RestIsStuck = (t : List Step) (j : ℕ) → Contains (placing t).rest j → (i : ℕ) × Contains (placing t).rest i × (before t i j ≡ true)
+
+-- a cycle: several invocations, none twice, the least first, each before the next and the last before the first
+pub record IsCycle (t : List Step) (c : List ℕ) : Type 0 where
+  pub several : 2 ≤ length c
+  pub distinct : AllPairs (λ i j. i ≢ j) c
+  pub least_first : All (λ i. slice_index c 0 ≤ i) c
+  pub each_before : (k : ℕ) → k + 1 < length c → before t (slice_index c k) (slice_index c (k + 1)) ≡ true
+  pub last_before : before t (slice_index c (length c - 1)) (slice_index c 0) ≡ true
+
+-- the named cycle of a trace that isn't free is a cycle
+abbrev pub CycleNamed : Type 0
+CycleNamed = (t : List Step) → (Free t → ⊥) → IsCycle t (cycle t)
+
+-- of a trace that isn't free: the first part of `at` steps isn't free, and each shorter one is
+pub record IsShortest (t : List Step) (n : ℕ) : Type 0 where
+  pub some_steps : 0 < n
+  pub within : n ≤ length t
+  pub not_free : Free (take n t) → ⊥
+  pub shorter_free : (m : ℕ) → m < n → Free (take m t)
+
+abbrev pub AtIsShortest : Type 0
+AtIsShortest = (t : List Step) → (Free t → ⊥) → IsShortest t (at t)
+
+-- a veto names the least object whose trace isn't free
+abbrev pub VetoesLeast : Type 0
+VetoesLeast = (steps : List Step) (o n : ℕ) (c : List ℕ) → verdict steps ≡ Vetoed o n c → (Free (trace steps o) → ⊥) × ((p : ℕ) → p < o → Free (trace steps p))
+
+-- an approval means that the trace of each object is free
+abbrev pub ApprovesFree : Type 0
+ApprovesFree = (steps : List Step) (orders : List Order) → verdict steps ≡ Approved orders → (o : ℕ) → Free (trace steps o)
