@@ -1,11 +1,11 @@
 -- The shortest first part that isn't free.
-use Rattle.std.proofs.Common.{◌≡◌, ℕ, suc, zero, ◌+◌, ◌<◌, ◌≤◌, Bool, true, false, List, [], ◌∷◌, length, take, ◌⊎◌, inl, inr, refl, sym, ap, ◌∙◌, subst, arith}
+use Rattle.std.proofs.Common.{◌≡◌, ℕ, suc, zero, ◌+◌, ◌<◌, ◌≤◌, true, false, List, [], length, take, ◌⊎◌, inl, inr, refl, sym, subst, arith}
 use Rattle.std.proofs.lemmas.Bool.{both_ways, cases_Bool, cases_lt}
 use Rattle.std.proofs.lemmas.List.{take_all}
 use Rattle.ecf_lang.specs.declared.run.Step.{Step}
 use Rattle.ecf_verdicts.specs.Cycles.{is_placed, shortest, at}
 use Rattle.ecf_verdicts.specs.Free.{Free}
-use Rattle.ecf_verdicts.specs.Laws.{IsShortest, AtIsShortest}
+use Rattle.ecf_verdicts.specs.Laws.{AtIsShortest}
 use Rattle.ecf_verdicts.specs.Placing.{place, placing}
 use Rattle.ecf_verdicts.specs.Traces.{members}
 use Rattle.ecf_verdicts.proofs.FreePlaced.{ordered_from_free, placed_from_ordered, free_from_placed}

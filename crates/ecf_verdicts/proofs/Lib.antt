@@ -1,10 +1,12 @@
 pub mod AtLaws
 pub mod CasesProved
 pub mod Conflict
+pub mod CycleLaws
 pub mod FreePlaced
 pub mod Lists
 pub mod Members
 pub mod Place
+pub mod PlaceLaws
 pub mod Ranks
 pub mod Single
 pub mod Sorting

@@ -1,6 +1,6 @@
 -- Some and each element of a list, by recursion on it.
-use Rattle.std.proofs.Common.{◌≡◌, Bool, true, false, cond, List, [], ◌∷◌, filter, ◌⊎◌, inl, inr, refl, sym, ap, ◌∙◌, subst}
-use Rattle.std.specs.Prelude.{⊤, All}
+use Rattle.std.proofs.Common.{◌≡◌, ℕ, zero, suc, ◌<◌, length, arith, Bool, true, false, cond, List, [], ◌∷◌, filter, ◌⊎◌, inl, inr, refl, sym, ap, ◌∙◌, subst}
+use Rattle.std.specs.Prelude.{⊤, All, Contains, get_or}
 use Rattle.std.specs.List.{list_any}
 use Rattle.std.proofs.lemmas.Bool.{or_cases, both_ways, or_left, or_right}
 use Rattle.std.proofs.lemmas.List.Elements.{recursion_from_All}
@@ -93,3 +93,31 @@ In_filter_from p (y ∷ xs) x (inr j) e = In_cond_tail (p y) y (filter p xs) x (
 
 pub Each_filter : {X : Type 0} (P : X → Type 0) (p : X → Bool) (xs : List X) → Each P xs → Each P (filter p xs)
 Each_filter P p xs h = Each_from P (filter p xs) (λ x i. Each_at P xs x h (In_filter p xs x i).0)
+
+-- between In and the index forms
+pub In_get : {X : Type 0} (v : List X) (k : ℕ) (d : X) → k < length v → In (get_or v k d) v
+In_get [] k d h = absurd (omega arith)
+In_get (x ∷ xs) zero d h = inl refl
+In_get (x ∷ xs) (suc k) d h = inr (In_get xs k d (omega arith))
+
+pub All_from_Each : {X : Type 0} (P : X → Type 0) (xs : List X) → Each P xs → All P xs
+All_from_Each P xs h = λ k d l. Each_at P xs (get_or xs k d) h (In_get xs k d l)
+
+pub Contains_from_In : {X : Type 0} (xs : List X) (x : X) → In x xs → Contains xs x
+Contains_from_In [] x i = absurd i
+Contains_from_In (y ∷ ys) x (inl e) = (0, omega arith, sym e)
+Contains_from_In (y ∷ ys) x (inr i) = let c = Contains_from_In ys x i in (suc c.0, omega (arith, c.1), c.2)
+
+pub In_from_Contains : {X : Type 0} (xs : List X) (x : X) → Contains xs x → In x xs
+In_from_Contains xs x c = subst (λ y. In y xs) c.2 (In_get xs c.0 x c.1)
+
+-- each element is in the relation to each later one
+abbrev pub Pairs : {X : Type 0} → (X → X → Type 0) → List X → Type 0
+Pairs R [] = ⊤
+Pairs R (x ∷ xs) = Each (R x) xs × Pairs R xs
+
+pub Pairs_at : {X : Type 0} (R : X → X → Type 0) (xs : List X) → Pairs R xs → (i j : ℕ) (d : X) → i < j → j < length xs → R (get_or xs i d) (get_or xs j d)
+Pairs_at R [] h i j d a b = absurd (omega arith)
+Pairs_at R (x ∷ xs) h i zero d a b = absurd (omega arith)
+Pairs_at R (x ∷ xs) h zero (suc j) d a b = Each_at (R x) xs (get_or xs j d) h.0 (In_get xs j d (omega arith))
+Pairs_at R (x ∷ xs) h (suc i) (suc j) d a b = Pairs_at R xs h.1 i j d (omega arith) (omega arith)

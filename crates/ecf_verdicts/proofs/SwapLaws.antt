@@ -1,15 +1,12 @@
 -- What legal swaps keep, and that they can be undone.
-use Rattle.std.proofs.Common.{◌≡◌, ℕ, suc, zero, Bool, true, false, cond, not, ◌&&◌, ◌==◌, eqb, List, [], ◌∷◌, ◌++◌, map, take, filter, IsPermutation, Option, Some, None, ◌⊎◌, inl, inr, refl, sym, ap, ◌∙◌, subst, arith}
-use Rattle.std.proofs.lemmas.Bool.{both_ways, eqb-true, eq-eqb, and_parts, not-true, cases_Bool}
+use Rattle.std.proofs.Common.{◌≡◌, ℕ, suc, zero, Bool, true, false, cond, ◌==◌, eqb, List, [], ◌∷◌, ◌++◌, map, take, filter, IsPermutation, Some, inl, inr, refl, sym, ap, ◌∙◌}
+use Rattle.std.proofs.lemmas.Bool.{both_ways, eqb-true, eq-eqb, and_parts, not-true}
 use Rattle.std.proofs.lemmas.List.Sorted.{IsPermutation-refl, IsPermutation-trans, IsPermutation-cons, IsPermutation-middle}
 use Rattle.ecf_lang.specs.declared.run.Step.{Step}
-use Rattle.ecf_verdicts.specs.Before.{before}
-use Rattle.ecf_verdicts.specs.Conflicts.{conflicts}
-use Rattle.ecf_verdicts.specs.Free.{Free}
 use Rattle.ecf_verdicts.specs.Laws.{SwapsPermute, SwapsKeepInvocations, SwapsKeepBefore, SwapsUndone, FirstPartsFree}
-use Rattle.ecf_verdicts.specs.Swaps.{may_swap, swap_at, swaps}
+use Rattle.ecf_verdicts.specs.Swaps.{may_swap, swaps}
 use Rattle.ecf_verdicts.proofs.Conflict.{IsBefore, IsBefore_from, before_from}
-use Rattle.ecf_verdicts.proofs.FreePlaced.{Ordered, ordered_from_free, placed_from_ordered, free_from_placed}
+use Rattle.ecf_verdicts.proofs.FreePlaced.{ordered_from_free, placed_from_ordered, free_from_placed}
 use Rattle.ecf_verdicts.proofs.Lists.{Has}
 use Rattle.ecf_verdicts.proofs.Sorting.{swaps_here, swaps_there, swaps_append}
 use Rattle.ecf_verdicts.proofs.Swapped.{swaps_keep, swaps_alike, conflicts_sym, eqb_sym}

@@ -1,14 +1,13 @@
 -- What a veto and an approval say of the traces.
-use Rattle.std.proofs.Common.{◌≡◌, ℕ, suc, zero, ◌<◌, ◌≤◌, Bool, true, false, cond, not, ◌==◌, eqb, List, [], ◌∷◌, length, filter, find, Option, Some, None, ◌⊎◌, inl, inr, refl, sym, ap, ◌∙◌, subst, arith}
-use Rattle.std.proofs.lemmas.Bool.{both_ways, cases_Bool, cases_eq, cases_lt, eqb-true, eq-eqb, ne_eqb, cases_order, lt-ltb, le-ltb, not-true, not-false, not_from_false}
+use Rattle.std.proofs.Common.{◌≡◌, ℕ, ◌<◌, Bool, true, false, not, List, [], ◌∷◌, find, Some, None, ◌⊎◌, inl, inr, refl, sym, ap, ◌∙◌, subst, arith}
+use Rattle.std.proofs.lemmas.Bool.{cases_Bool, cases_eq, ne_eqb, not-true, not-false}
 use Rattle.ecf_lang.specs.declared.receipt.Order.{Order}
 use Rattle.ecf_lang.specs.declared.run.Step.{Step}
 use Rattle.ecf_verdicts.specs.Cycles.{is_placed, at, cycle}
 use Rattle.ecf_verdicts.specs.Free.{Free}
 use Rattle.ecf_verdicts.specs.Laws.{VetoesLeast, ApprovesFree}
-use Rattle.ecf_verdicts.specs.Placing.{place, placing}
 use Rattle.ecf_verdicts.specs.Traces.{trace, join, members, objects}
-use Rattle.ecf_verdicts.specs.Verdicts.{Verdict, Approved, Vetoed, verdict, orders, vetoed_object}
+use Rattle.ecf_verdicts.specs.Verdicts.{Approved, Vetoed, verdict, orders, vetoed_object}
 use Rattle.ecf_verdicts.proofs.AtLaws.{free_from_test, not_free, nothing_placed}
 use Rattle.ecf_verdicts.proofs.FreePlaced.{find_some, find_none, cases_next}
 use Rattle.ecf_verdicts.proofs.Lists.{Each, In, Each_at, Each_from, Each_weaker}

@@ -1,5 +1,5 @@
 -- What the definitions promise.
-use Rattle.std.specs.Prelude.{◌≡◌, ◌↔◌, ◌≢◌, ◌==◌, ◌<◌, ◌≤◌, ◌+◌, ◌-◌, ℕ, true, List, [], All, AllPairs, Contains, IsPermutation, Some, filter, length, slice_index, slice_index_or, take}
+use Rattle.std.specs.Prelude.{◌≡◌, ◌↔◌, ◌≢◌, ◌⊎◌, ◌==◌, ◌<◌, ◌≤◌, ◌+◌, ◌-◌, ℕ, true, List, [], All, AllPairs, Contains, IsPermutation, Some, filter, length, slice_index, slice_index_or, take}
 use Rattle.ecf_lang.specs.declared.receipt.Order.{Order}
 use Rattle.ecf_lang.specs.declared.run.Step.{Step}
 use Rattle.ecf_verdicts.specs.Before.{before}
@@ -59,9 +59,13 @@ PlacesMembers = (t : List Step) → AllPairs (λ i j. i ≢ j) (placing t).place
 abbrev pub PlacedKeepsBefore : Type 0
 PlacedKeepsBefore = (t : List Step) (k i : ℕ) → k < length (placing t).placed → before t i (slice_index (placing t).placed k) ≡ true → (m : ℕ) × (m < k) × (slice_index (placing t).placed m ≡ i)
 
--- each member is placed or in the rest, and each of the rest has one of the rest before it
+-- each invocation that has steps is placed or in the rest
+abbrev pub MembersPlacedOrRest : Type 0
+MembersPlacedOrRest = (t : List Step) → All (λ i. Contains (placing t).placed i ⊎ Contains (placing t).rest i) (members t)
+
+-- each of the rest has one of the rest before it, so that nothing more can be placed
 abbrev pub RestIsStuck : Type 0
-RestIsStuck = (t : List Step) (j : ℕ) → Contains (placing t).rest j → (i : ℕ) × Contains (placing t).rest i × (before t i j ≡ true)
+RestIsStuck = (t : List Step) → All (λ j. (i : ℕ) × Contains (placing t).rest i × (before t i j ≡ true)) (placing t).rest
 
 -- a cycle: several invocations, none twice, the least first, each before the next and the last before the first
 pub record IsCycle (t : List Step) (c : List ℕ) : Type 0 where

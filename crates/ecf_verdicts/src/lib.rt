@@ -3,64 +3,112 @@
 #![tactic(auto)]
 
 ghost use Rattle.ecf_verdicts.specs.Cases.{PaysFirst};
-ghost use Rattle.ecf_verdicts.specs.Laws.{ApprovesFree, AtIsShortest, FirstPartsFree, FreeExactlyWherePlaced, SingleApproved, SingleFree, SwapsKeepBefore, SwapsKeepInvocations, SwapsPermute, SwapsUndone, VetoesLeast};
+ghost use Rattle.ecf_verdicts.specs.Laws.{ApprovesFree, AtIsShortest, BeforeExactlyWhere, CycleNamed, FirstPartsFree, FreeExactlyWherePlaced, MembersPlacedOrRest, PlacedKeepsBefore, PlacesMembers, RestIsStuck, SingleApproved, SingleFree, SwapsKeepBefore, SwapsKeepInvocations, SwapsPermute, SwapsUndone, VetoesLeast};
 
 /// Swaps can bring the steps of each invocation together exactly where all invocations can be placed.
 pub fn free_exactly_where_placed()
     ensures { FreeExactlyWherePlaced }
-{}
+{
+}
 
 /// A trace of one invocation is free.
 pub fn single_free()
     ensures { SingleFree }
-{}
+{
+}
 
 /// Each first part of a free trace is free.
 pub fn first_parts_free()
     ensures { FirstPartsFree }
-{}
+{
+}
 
 /// Legal swaps only move steps.
 pub fn swaps_permute()
     ensures { SwapsPermute }
-{}
+{
+}
 
 /// Legal swaps keep the order of each invocation's steps.
 pub fn swaps_keep_invocations()
     ensures { SwapsKeepInvocations }
-{}
+{
+}
 
 /// Legal swaps keep which invocation is before which.
 pub fn swaps_keep_before()
     ensures { SwapsKeepBefore }
-{}
+{
+}
 
 /// Legal swaps can be undone by legal swaps.
 pub fn swaps_undone()
     ensures { SwapsUndone }
-{}
+{
+}
+
+/// An invocation is before another exactly where two places of the trace say so.
+pub fn before_exactly_where()
+    ensures { BeforeExactlyWhere }
+{
+}
+
+/// The placing lists distinct invocations that have steps.
+pub fn places_members()
+    ensures { PlacesMembers }
+{
+}
+
+/// Whatever is before a placed invocation is placed earlier.
+pub fn placed_keeps_before()
+    ensures { PlacedKeepsBefore }
+{
+}
+
+/// Each invocation that has steps is placed or in the rest.
+pub fn members_placed_or_rest()
+    ensures { MembersPlacedOrRest }
+{
+}
+
+/// The placing ends only where nothing more can be placed.
+pub fn rest_is_stuck()
+    ensures { RestIsStuck }
+{
+}
+
+/// The named cycle of a trace that isn't free is a cycle, begun with its least member.
+pub fn cycle_named()
+    ensures { CycleNamed }
+{
+}
 
 /// A veto's number of steps is that of the shortest first part that isn't free.
 pub fn at_is_shortest()
     ensures { AtIsShortest }
-{}
+{
+}
 
 /// Steps of one invocation are approved, with no orders.
 pub fn single_approved()
     ensures { SingleApproved }
-{}
+{
+}
 
 /// A veto names the least object whose trace isn't free.
 pub fn vetoes_least()
     ensures { VetoesLeast }
-{}
+{
+}
 
 /// An approval means that the trace of each object is free.
 pub fn approves_free()
     ensures { ApprovesFree }
-{}
+{
+}
 
 /// A bank that pays before it clears the debt is vetoed.
 pub fn pays_first_case()
     ensures { PaysFirst }
-{}
+{
+}
