@@ -104,7 +104,7 @@ closed t i present earlier chain d h b =
     record {
       around = subst (λ l. Around t l) (sym is) (subst (λ l. Chain t (l ++ present ∷ [])) is (up_to_chain t i present (present ∷ earlier) chain h b));
       distinct = up_to_distinct i (present ∷ earlier) d;
-      several = subst (λ l. 2 ≤ length l) (sym is) (longer earlier inside)
+      several = subst (λ l. 2 ≤ length l) (sym is) (longer earlier inside);
     }
   where
     longer : (xs : List ℕ) → In i xs → 2 ≤ suc (length (up_to i xs))
@@ -132,8 +132,10 @@ walked t rest s (suc n) present earlier chain d inside room = go (cases_Bool (is
   where
     next : (i : ℕ) × (least_before t rest present ≡ Some i) × In i rest × (before t i present ≡ true)
     next = next_back t rest s present inside.0
+
     fresh : is_among next.0 (present ∷ earlier) ≡ false → Each (λ j. next.0 ≢ j) (present ∷ earlier)
     fresh f = Each_from (λ j. next.0 ≢ j) (present ∷ earlier) (λ j h e. not_among next.0 (present ∷ earlier) f (subst (λ w. In w (present ∷ earlier)) (sym e) h))
+
     go : (is_among next.0 (present ∷ earlier) ≡ true) ⊎ (is_among next.0 (present ∷ earlier) ≡ false) → (is_among next.0 (present ∷ earlier) ≡ false → Walked t (walk t rest n next.0 (present ∷ earlier))) → Walked t (walk t rest (suc n) present earlier)
     go (inl e) deep = subst (λ c. Walked t c) (sym (walk_ends t rest n present earlier next.0 next.1 e)) (closed t next.0 present earlier chain d (among_in next.0 (present ∷ earlier) e) next.3)
     go (inr f) deep = subst (λ c. Walked t c) (sym (walk_none t rest n present earlier next.0 next.1 f)) (deep f)
@@ -226,9 +228,9 @@ begun t (x ∷ xs) w =
       walked = record {
         around = around_turned t front m back (subst (λ l. Around t l) r.2 w.around);
         distinct = distinct_turned front (m ∷ back) (subst Distinct r.2 w.distinct);
-        several = omega (arith, w.several, long, length-append back front)
+        several = omega (arith, w.several, long, length-append back front);
       };
-      lowest = (omega arith, Each_append (λ y. m ≤ y) back front low.1.1 low.0)
+      lowest = (omega arith, Each_append (λ y. m ≤ y) back front low.1.1 low.0);
     })
 
 -- by places
@@ -254,7 +256,7 @@ by_places t (x ∷ xs) b =
       distinct = Pairs_at (λ i j. i ≢ j) c b.walked.distinct;
       least_first = All_from_Each (λ i. x ≤ i) c b.lowest;
       each_before = λ k h. subst (λ w. before t w (get_or c (k + 1) 0) ≡ true) (get_or_append_left c (x ∷ []) 0 k (omega (arith, h))) (subst (λ w. before t (get_or (c ++ x ∷ []) k 0) w ≡ true) (get_or_append_left c (x ∷ []) 0 (k + 1) h) (chain_at t (c ++ x ∷ []) b.walked.around k (omega (arith, h, long))));
-      last_before = subst (λ n. before t (get_or c n 0) x ≡ true) (less_one (length xs)) (subst (λ w. before t w x ≡ true) (get_or_append_left c (x ∷ []) 0 (length xs) (omega arith)) (subst (λ w. before t (get_or (c ++ x ∷ []) (length xs) 0) w ≡ true) (get_or_at c x [] 0 (length xs + 1) (omega arith)) (chain_at t (c ++ x ∷ []) b.walked.around (length xs) (omega (arith, long)))))
+      last_before = subst (λ n. before t (get_or c n 0) x ≡ true) (less_one (length xs)) (subst (λ w. before t w x ≡ true) (get_or_append_left c (x ∷ []) 0 (length xs) (omega arith)) (subst (λ w. before t (get_or (c ++ x ∷ []) (length xs) 0) w ≡ true) (get_or_at c x [] 0 (length xs + 1) (omega arith)) (chain_at t (c ++ x ∷ []) b.walked.around (length xs) (omega (arith, long)))));
     }
 
 in_rest : (t : List Step) (rest : List ℕ) → Stuck t rest → (rest ≡ [] → ⊥) → IsCycle t (cycle_in t rest)

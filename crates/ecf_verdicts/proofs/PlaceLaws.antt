@@ -69,9 +69,10 @@ pub places_members : PlacesMembers
 unfolding placing
 places_members t =
     let n = length (members t) in
-    let order = (place t n (members t)).placed in
-    (Pairs_at (λ i j. i ≢ j) order (placed_distinct t n (members t)),
-     All_from_Each (Contains (members t)) order (Each_from (Contains (members t)) order (λ i h. Contains_from_In (members t) i (placed_in t n (members t) i h))))
+    let order = (place t n (members t)).placed in (
+      Pairs_at (λ i j. i ≢ j) order (placed_distinct t n (members t)),
+      All_from_Each (Contains (members t)) order (Each_from (Contains (members t)) order (λ i h. Contains_from_In (members t) i (placed_in t n (members t) i h))),
+    )
 
 -- what is before a placed one is placed earlier
 abbrev KeptIn : List Step → List ℕ → List ℕ → Type 0

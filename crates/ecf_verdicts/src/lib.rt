@@ -1,114 +1,161 @@
 //! What a veto is, as swaps on whole lists of steps, and the laws by which it is decided. Definitions stand in
-//! `specs/`; each function here is a law about them, and does nothing.
+//! `specs/`; each function here is a law about them, or a case worked out, and does nothing.
 #![tactic(auto)]
 
-ghost use Rattle.ecf_verdicts.specs.Cases.{PaysFirst};
+ghost use Rattle.ecf_verdicts.specs.Cases.{ApartYetFree, CallbackFirst, CalledInside, CalledOutside, ClearsFirst, EqualValuesConflict, FirstReaderAgain, PaysFirst, StartOutside, ThreeInARing, TwoCalls, TwoCycles, TwoObjects, TwoReaders};
 ghost use Rattle.ecf_verdicts.specs.Laws.{ApprovesFree, AtIsShortest, BeforeExactlyWhere, CycleNamed, FirstPartsFree, FreeExactlyWherePlaced, MembersPlacedOrRest, PlacedKeepsBefore, PlacesMembers, RestIsStuck, SingleApproved, SingleFree, SwapsKeepBefore, SwapsKeepInvocations, SwapsPermute, SwapsUndone, VetoesLeast};
 
 /// Swaps can bring the steps of each invocation together exactly where all invocations can be placed.
 pub fn free_exactly_where_placed()
     ensures { FreeExactlyWherePlaced }
-{
-}
+{}
 
 /// A trace of one invocation is free.
 pub fn single_free()
     ensures { SingleFree }
-{
-}
+{}
 
 /// Each first part of a free trace is free.
 pub fn first_parts_free()
     ensures { FirstPartsFree }
-{
-}
+{}
 
 /// Legal swaps only move steps.
 pub fn swaps_permute()
     ensures { SwapsPermute }
-{
-}
+{}
 
 /// Legal swaps keep the order of each invocation's steps.
 pub fn swaps_keep_invocations()
     ensures { SwapsKeepInvocations }
-{
-}
+{}
 
 /// Legal swaps keep which invocation is before which.
 pub fn swaps_keep_before()
     ensures { SwapsKeepBefore }
-{
-}
+{}
 
 /// Legal swaps can be undone by legal swaps.
 pub fn swaps_undone()
     ensures { SwapsUndone }
-{
-}
+{}
 
 /// An invocation is before another exactly where two places of the trace say so.
 pub fn before_exactly_where()
     ensures { BeforeExactlyWhere }
-{
-}
+{}
 
 /// The placing lists distinct invocations that have steps.
 pub fn places_members()
     ensures { PlacesMembers }
-{
-}
+{}
 
 /// Whatever is before a placed invocation is placed earlier.
 pub fn placed_keeps_before()
     ensures { PlacedKeepsBefore }
-{
-}
+{}
 
 /// Each invocation that has steps is placed or in the rest.
 pub fn members_placed_or_rest()
     ensures { MembersPlacedOrRest }
-{
-}
+{}
 
 /// The placing ends only where nothing more can be placed.
 pub fn rest_is_stuck()
     ensures { RestIsStuck }
-{
-}
+{}
 
 /// The named cycle of a trace that isn't free is a cycle, begun with its least member.
 pub fn cycle_named()
     ensures { CycleNamed }
-{
-}
+{}
 
 /// A veto's number of steps is that of the shortest first part that isn't free.
 pub fn at_is_shortest()
     ensures { AtIsShortest }
-{
-}
+{}
 
 /// Steps of one invocation are approved, with no orders.
 pub fn single_approved()
     ensures { SingleApproved }
-{
-}
+{}
 
 /// A veto names the least object whose trace isn't free.
 pub fn vetoes_least()
     ensures { VetoesLeast }
-{
-}
+{}
 
 /// An approval means that the trace of each object is free.
 pub fn approves_free()
     ensures { ApprovesFree }
-{
-}
+{}
 
 /// A bank that pays before it clears the debt is vetoed.
 pub fn pays_first_case()
     ensures { PaysFirst }
-{
-}
+{}
+
+/// A bank that clears the debt before it pays is approved.
+pub fn clears_first_case()
+    ensures { ClearsFirst }
+{}
+
+/// A callback that only the other order explains is approved.
+pub fn callback_first_case()
+    ensures { CallbackFirst }
+{}
+
+/// A cycle of three invocations and none of two is vetoed.
+pub fn three_in_a_ring_case()
+    ensures { ThreeInARing }
+{}
+
+/// A trace that is not together yet free is approved.
+pub fn apart_case()
+    ensures { ApartYetFree }
+{}
+
+/// Writes of equal values conflict.
+pub fn equal_values_case()
+    ensures { EqualValuesConflict }
+{}
+
+/// A method called internally does no harm.
+pub fn called_inside_case()
+    ensures { CalledInside }
+{}
+
+/// The same method called from outside is vetoed.
+pub fn called_outside_case()
+    ensures { CalledOutside }
+{}
+
+/// Two readers and then a writer are approved.
+pub fn two_readers_case()
+    ensures { TwoReaders }
+{}
+
+/// The earlier of two readers counts too.
+pub fn first_reader_again_case()
+    ensures { FirstReaderAgain }
+{}
+
+/// Two calls of one transaction are approved with their order.
+pub fn two_calls_case()
+    ensures { TwoCalls }
+{}
+
+/// Of two objects the least is named.
+pub fn two_objects_case()
+    ensures { TwoObjects }
+{}
+
+/// Of two cycles that meet the one is named that the walk from the least meets first.
+pub fn two_cycles_case()
+    ensures { TwoCycles }
+{}
+
+/// The least of those that cannot be placed need not be in the cycle.
+pub fn start_outside_case()
+    ensures { StartOutside }
+{}
