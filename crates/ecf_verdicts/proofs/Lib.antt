@@ -4,10 +4,12 @@ pub mod Conflict
 pub mod CycleLaws
 pub mod FreePlaced
 pub mod Lists
+pub mod MemberLaws
 pub mod Members
 pub mod Place
 pub mod PlaceLaws
 pub mod Ranks
+pub mod Rising
 pub mod Single
 pub mod Sorting
 pub mod SwapLaws

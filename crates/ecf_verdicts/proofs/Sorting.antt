@@ -1,6 +1,7 @@
 -- Swaps that sort a trace by a rank which keeps what is before what, and that a sorted trace is together.
-use Rattle.std.proofs.Common.{◌≡◌, ℕ, suc, zero, ◌<◌, ◌≤◌, true, List, [], ◌∷◌, ◌++◌, map, length, get_or, Option, Some, None, option_map, option_and_then, inl, inr, refl, ap, ◌∙◌, arith}
-use Rattle.std.proofs.lemmas.Bool.{ne_eqb, cases_lt, and_from, false_from_ne_true}
+use Rattle.std.proofs.Common.{◌≡◌, ℕ, suc, zero, ◌+◌, ◌<◌, ◌≤◌, Bool, true, false, cond, nat_lt, List, [], ◌∷◌, ◌++◌, map, filter, length, length-append, get_or, Option, Some, None, option_map, option_and_then, inl, inr, refl, sym, ap, ◌∙◌, arith}
+use Rattle.std.proofs.lemmas.Bool.{ne_eqb, cases_lt, and_from, false_from_ne_true, lt-ltb, le-ltb}
+use Rattle.ecf_verdicts.specs.Laws.{out_of_order, SwapsIntoOrder}
 use Rattle.ecf_lang.specs.declared.run.Step.{Step}
 use Rattle.ecf_verdicts.specs.Before.{before}
 use Rattle.ecf_verdicts.specs.Conflicts.{conflicts}
@@ -20,13 +21,19 @@ abbrev pub Sorted : (ℕ → ℕ) → List Step → Type 0
 Sorted r [] = Unit {0}
 Sorted r (s ∷ later) = Each (λ u. r s.inv ≤ r u.inv) later × Sorted r later
 
--- swaps that sort
-pub record SortedBy (r : ℕ → ℕ) (t : List Step) : Type 0 where
+-- how many pass a test
+abbrev pub count : (Step → Bool) → List Step → ℕ
+count p t = length (filter p t)
+
+-- so many swaps that sort
+pub record SortedBy (r : ℕ → ℕ) (t : List Step) (n : ℕ) : Type 0 where
   pub places : List ℕ
   pub result : List Step
   pub swapped : swaps t places ≡ Some result
   pub sorted : Sorted r result
   pub among : (x : Step) → In x result → In x t
+  pub counts : (p : Step → Bool) → count p result ≡ count p t
+  pub long : length places ≡ n
 
 pub Keeps_from : (r : ℕ → ℕ) (t : List Step) → ((i j : ℕ) → before t i j ≡ true → r i < r j) → Keeps r t
 Keeps_from r [] h = tt
@@ -69,10 +76,38 @@ passes : (r : ℕ → ℕ) (s x : Step) → (conflicts s x ≡ true → r s.inv 
 unfolding may_swap
 passes r s x ok less = and_from _ _ (ap Rattle.std.specs.Prelude.not (ne_eqb s.inv x.inv (λ e. absurd (omega (arith, less, ap r e))))) (ap Rattle.std.specs.Prelude.not (false_from_ne_true (conflicts s x) (λ e. omega (arith, ok e, less))))
 
+count_cons : (p : Step → Bool) (x : Step) (t : List Step) → count p (x ∷ t) ≡ cond (p x) 1 0 + count p t
+count_cons p x t = go (p x)
+  where
+    go : (b : Bool) → length (cond b (x ∷ filter p t) (filter p t)) ≡ cond b 1 0 + length (filter p t)
+    go true = omega arith
+    go false = omega arith
+
+count_more : (p : Step → Bool) (x : Step) (t u : List Step) → count p t ≡ count p u → count p (x ∷ t) ≡ count p (x ∷ u)
+count_more p x t u e = count_cons p x t ∙ ap (λ n. cond (p x) 1 0 + n) e ∙ sym (count_cons p x u)
+
+count_swap : (p : Step → Bool) (x y : Step) (t : List Step) → count p (x ∷ y ∷ t) ≡ count p (y ∷ x ∷ t)
+count_swap p x y t = omega (arith, count_cons p x (y ∷ t), count_cons p y t, count_cons p y (x ∷ t), count_cons p x t)
+
+-- the steps of lower rank
+abbrev pub lower : (ℕ → ℕ) → Step → Step → Bool
+lower r s x = nat_lt (r x.inv) (r s.inv)
+
+count_true : (p : Step → Bool) (x : Step) (t : List Step) → p x ≡ true → count p (x ∷ t) ≡ suc (count p t)
+count_true p x t e = count_cons p x t ∙ rw e (omega arith)
+
+count_none : (p : Step → Bool) (t : List Step) → Each (λ x. p x ≡ false) t → count p t ≡ 0
+count_none p [] h = refl
+count_none p (x ∷ t) h = rw h.0 (count_none p t h.1)
+
+length_suc : (ps : List ℕ) → length (map suc ps) ≡ length ps
+length_suc [] = refl
+length_suc (p ∷ ps) = ap suc (length_suc ps)
+
 -- a step moves to the right past those of lower rank
-sink : (r : ℕ → ℕ) (s : Step) (u : List Step) → Sorted r u → Each (λ x. conflicts s x ≡ true → r s.inv < r x.inv) u → SortedBy r (s ∷ u)
+sink : (r : ℕ → ℕ) (s : Step) (u : List Step) → Sorted r u → Each (λ x. conflicts s x ≡ true → r s.inv < r x.inv) u → SortedBy r (s ∷ u) (count (lower r s) u)
 unfolding swaps
-sink r s [] sorted ok = record { places = []; result = s ∷ []; swapped = refl; sorted = (tt, tt); among = λ x i. i }
+sink r s [] sorted ok = record { places = []; result = s ∷ []; swapped = refl; sorted = (tt, tt); among = λ x i. i; counts = λ p. refl; long = refl }
 sink r s (x ∷ xs) sorted ok = elim (cases_lt (r x.inv) (r s.inv)) [
   | inl less ↦
       let deep = sink r s xs sorted.1 ok.1 in
@@ -82,6 +117,8 @@ sink r s (x ∷ xs) sorted ok = elim (cases_lt (r x.inv) (r s.inv)) [
         swapped = swaps_here s x xs (map suc deep.places) (passes r s x ok.0 less) ∙ swaps_there x deep.places (s ∷ xs) deep.result deep.swapped;
         sorted = (Each_from _ deep.result (λ y i. elim (deep.among y i) [ inl e ↦ omega (arith, less, ap (λ (z : Step). r z.inv) e) | inr k ↦ Each_at _ xs y sorted.0 k ]), deep.sorted);
         among = λ y i. elim i [ inl e ↦ inr (inl e) | inr k ↦ elim (deep.among y k) [ inl e ↦ inl e | inr l ↦ inr (inr l) ] ];
+        counts = λ p. count_more p x deep.result (s ∷ xs) (deep.counts p) ∙ count_swap p x s xs;
+        long = ap suc (length_suc deep.places ∙ deep.long) ∙ sym (count_true (lower r s) x xs (lt-ltb (r x.inv) (r s.inv) less));
       }
   | inr more ↦ record {
     places = [];
@@ -89,12 +126,14 @@ sink r s (x ∷ xs) sorted ok = elim (cases_lt (r x.inv) (r s.inv)) [
     swapped = refl;
     sorted = ((more, Each_weaker _ _ xs (λ y h. omega (arith, h, more)) sorted.0), sorted);
     among = λ y i. i;
+    counts = λ p. refl;
+    long = sym (count_none (lower r s) (x ∷ xs) (le-ltb (r x.inv) (r s.inv) more, Each_weaker _ _ xs (λ y h. le-ltb (r y.inv) (r s.inv) (omega (arith, h, more))) sorted.0));
   }
 ]
 
-pub sort : (r : ℕ → ℕ) (t : List Step) → Keeps r t → SortedBy r t
-unfolding swaps
-sort r [] keeps = record { places = []; result = []; swapped = refl; sorted = tt; among = λ x i. i }
+pub sort : (r : ℕ → ℕ) (t : List Step) → Keeps r t → SortedBy r t (out_of_order r t)
+unfolding swaps out_of_order
+sort r [] keeps = record { places = []; result = []; swapped = refl; sorted = tt; among = λ x i. i; counts = λ p. refl; long = refl }
 sort r (s ∷ later) keeps =
     let first = sort r later keeps.1 in
     let second = sink r s first.result first.sorted (Each_from _ first.result (λ x i. Each_at _ later x keeps.0 (first.among x i))) in
@@ -104,6 +143,8 @@ sort r (s ∷ later) keeps =
       swapped = swaps_append (map suc first.places) second.places (s ∷ later) (s ∷ first.result) (swaps_there s first.places later first.result first.swapped) ∙ second.swapped;
       sorted = second.sorted;
       among = λ x i. elim (second.among x i) [ inl e ↦ inl e | inr k ↦ inr (first.among x k) ];
+      counts = λ p. second.counts p ∙ count_more p s first.result later (first.counts p);
+      long = omega (arith, length-append (map suc first.places) second.places, length_suc first.places, first.long, second.long, first.counts (lower r s));
     }
 
 pub In_get : (v : List Step) (k : ℕ) (d : Step) → k < length v → In (get_or v k d) v
@@ -111,7 +152,7 @@ In_get [] k d h = absurd (omega arith)
 In_get (x ∷ xs) zero d h = inl refl
 In_get (x ∷ xs) (suc k) d h = inr (In_get xs k d (omega arith))
 
-sorted_at : (r : ℕ → ℕ) (v : List Step) (i j : ℕ) (d : Step) → Sorted r v → i ≤ j → j < length v → r (get_or v i d).inv ≤ r (get_or v j d).inv
+pub sorted_at : (r : ℕ → ℕ) (v : List Step) (i j : ℕ) (d : Step) → Sorted r v → i ≤ j → j < length v → r (get_or v i d).inv ≤ r (get_or v j d).inv
 sorted_at r [] i j d s h k = absurd (omega arith)
 sorted_at r (x ∷ xs) zero zero d s h k = omega arith
 sorted_at r (x ∷ xs) zero (suc j) d s h k = Each_at (λ u. r x.inv ≤ r u.inv) xs (get_or xs j d) s.0 (In_get xs j d (omega arith))
@@ -126,3 +167,8 @@ together_from r v apart sorted = record {
       let same : r (get_or v i d).inv ≡ r (get_or v k d).inv = ap r e in
       apart (get_or v j d) (get_or v i d) (In_get v j d (omega arith)) (In_get v i d (omega arith)) (omega (arith, low, high, same));
 }
+
+pub swaps_into_order : SwapsIntoOrder
+swaps_into_order t r keeps =
+    let s = sort r t (Keeps_from r t keeps) in
+    (s.places, s.result, record { swapped = s.swapped; in_order = λ i j d a b. sorted_at r s.result i j d s.sorted a b }, s.long)

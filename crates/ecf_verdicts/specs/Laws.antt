@@ -1,5 +1,6 @@
 -- What the definitions promise.
-use Rattle.std.specs.Prelude.{◌≡◌, ◌↔◌, ◌≢◌, ◌⊎◌, ◌==◌, ◌<◌, ◌≤◌, ◌+◌, ◌-◌, ℕ, true, List, [], All, AllPairs, Contains, IsPermutation, Some, filter, length, slice_index, slice_index_or, take}
+use Rattle.std.specs.List.Sorted.{IsNonDecreasingBy, IsStrictlyIncreasing}
+use Rattle.std.specs.Prelude.{⊤, nat_lt, map, Any, ◌≡◌, ◌↔◌, ◌≢◌, ◌⊎◌, ◌==◌, ◌<◌, ◌≤◌, ◌+◌, ◌-◌, ℕ, true, List, [], ◌∷◌, All, AllPairs, Contains, IsPermutation, Some, filter, length, slice_index, slice_index_or, take}
 use Rattle.ecf_lang.specs.declared.receipt.Order.{Order}
 use Rattle.ecf_lang.specs.declared.run.Step.{Step}
 use Rattle.ecf_verdicts.specs.Before.{before}
@@ -9,7 +10,7 @@ use Rattle.ecf_verdicts.specs.Free.{Free}
 use Rattle.ecf_verdicts.specs.Placing.{placing}
 use Rattle.ecf_verdicts.specs.Swaps.{swaps}
 use Rattle.ecf_verdicts.specs.Traces.{members, trace}
-use Rattle.ecf_verdicts.specs.Verdicts.{Approved, Vetoed, verdict}
+use Rattle.ecf_verdicts.specs.Verdicts.{Verdict, Approved, Vetoed, verdict}
 
 -- a trace is free exactly where the placing leaves no rest
 abbrev pub FreeExactlyWherePlaced : Type 0
@@ -43,6 +44,20 @@ SwapsUndone = (t : List Step) (places : List ℕ) (u : List Step) → swaps t pl
 abbrev pub FirstPartsFree : Type 0
 FirstPartsFree = (t : List Step) → Free t → (n : ℕ) → Free (take n t)
 
+-- how many pairs of steps a rank of invocations puts the other way round
+unfoldable pub out_of_order : (ℕ → ℕ) → List Step → ℕ
+out_of_order rank [] = 0
+out_of_order rank (s ∷ later) = length (filter (λ u. nat_lt (rank u.inv) (rank s.inv)) later) + out_of_order rank later
+
+-- legal swaps to a trace in which the rank doesn't fall
+pub record SwapsTo (rank : ℕ → ℕ) (t : List Step) (places : List ℕ) (u : List Step) : Type 0 where
+  pub swapped : swaps t places ≡ Some u
+  pub in_order : IsNonDecreasingBy (λ (s : Step). rank s.inv) u
+
+-- a rank that keeps what is before what is reached by legal swaps, one for each pair of steps out of it
+abbrev pub SwapsIntoOrder : Type 0
+SwapsIntoOrder = (t : List Step) (rank : ℕ → ℕ) → ((i j : ℕ) → before t i j ≡ true → rank i < rank j) → (places : List ℕ) × (u : List Step) × SwapsTo rank t places u × (length places ≡ out_of_order rank t)
+
 -- two places of the trace, the first earlier, whose steps are of i and of j and conflict
 abbrev pub ConflictsInOrder : List Step → ℕ → ℕ → Type 0
 ConflictsInOrder t i j = (p : ℕ) × (q : ℕ) × (p < q) × (q < length t) × ((d : Step) → ((slice_index_or t p d).inv ≡ i) × ((slice_index_or t q d).inv ≡ j) × (conflicts (slice_index_or t p d) (slice_index_or t q d) ≡ true))
@@ -50,6 +65,10 @@ ConflictsInOrder t i j = (p : ℕ) × (q : ℕ) × (p < q) × (q < length t) × 
 -- "before" says exactly that there are such places
 abbrev pub BeforeExactlyWhere : Type 0
 BeforeExactlyWhere = (t : List Step) (i j : ℕ) → (before t i j ≡ true) ↔ ConflictsInOrder t i j
+
+-- the members are the invocations with steps, rising
+abbrev pub MembersAre : Type 0
+MembersAre = (t : List Step) → IsStrictlyIncreasing (members t) × ((i : ℕ) → Contains (members t) i ↔ Any (λ s. s.inv ≡ i) t)
 
 -- the placed invocations are distinct and have steps
 abbrev pub PlacesMembers : Type 0
@@ -93,6 +112,27 @@ AtIsShortest = (t : List Step) → (Free t → ⊥) → IsShortest t (at t)
 abbrev pub VetoesLeast : Type 0
 VetoesLeast = (steps : List Step) (o n : ℕ) (c : List ℕ) → verdict steps ≡ Vetoed o n c → (Free (trace steps o) → ⊥) × ((p : ℕ) → p < o → Free (trace steps p))
 
+-- a veto's cycle is one of that object's trace, and its number of steps that of the shortest part that isn't free
+abbrev pub VetoesExplain : Type 0
+VetoesExplain = (steps : List Step) (o n : ℕ) (c : List ℕ) → verdict steps ≡ Vetoed o n c → IsShortest (trace steps o) n × IsCycle (trace steps o) c
+
 -- an approval means that the trace of each object is free
 abbrev pub ApprovesFree : Type 0
 ApprovesFree = (steps : List Step) (orders : List Order) → verdict steps ≡ Approved orders → (o : ℕ) → Free (trace steps o)
+
+-- a veto is given exactly where the trace of some object isn't free
+abbrev pub IsVeto : Verdict → Type 0
+IsVeto (Approved orders) = ⊥
+IsVeto (Vetoed o n c) = ⊤
+
+abbrev pub VetoedExactlyWhere : Type 0
+VetoedExactlyWhere = (steps : List Step) → IsVeto (verdict steps) ↔ (o : ℕ) × (Free (trace steps o) → ⊥)
+
+-- an approval lists, objects rising, the named order of each object on which at least two invocations have steps
+pub record ListsOrders (steps : List Step) (orders : List Order) : Type 0 where
+  pub rising : IsStrictlyIncreasing (map (λ r. r.object) orders)
+  pub named : All (λ r. r.invs ≡ (placing (trace steps r.object)).placed) orders
+  pub where_several : (o : ℕ) → Any (λ r. r.object ≡ o) orders ↔ (2 ≤ length (members (trace steps o)))
+
+abbrev pub ApprovesOrders : Type 0
+ApprovesOrders = (steps : List Step) (orders : List Order) → verdict steps ≡ Approved orders → ListsOrders steps orders

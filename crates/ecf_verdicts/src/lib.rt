@@ -3,7 +3,7 @@
 #![tactic(auto)]
 
 ghost use Rattle.ecf_verdicts.specs.Cases.{ApartYetFree, CallbackFirst, CalledInside, CalledOutside, ClearsFirst, EqualValuesConflict, FirstReaderAgain, PaysFirst, StartOutside, ThreeInARing, TwoCalls, TwoCycles, TwoObjects, TwoReaders};
-ghost use Rattle.ecf_verdicts.specs.Laws.{ApprovesFree, AtIsShortest, BeforeExactlyWhere, CycleNamed, FirstPartsFree, FreeExactlyWherePlaced, MembersPlacedOrRest, PlacedKeepsBefore, PlacesMembers, RestIsStuck, SingleApproved, SingleFree, SwapsKeepBefore, SwapsKeepInvocations, SwapsPermute, SwapsUndone, VetoesLeast};
+ghost use Rattle.ecf_verdicts.specs.Laws.{ApprovesFree, ApprovesOrders, AtIsShortest, BeforeExactlyWhere, CycleNamed, FirstPartsFree, FreeExactlyWherePlaced, MembersAre, MembersPlacedOrRest, PlacedKeepsBefore, PlacesMembers, RestIsStuck, SingleApproved, SingleFree, SwapsIntoOrder, SwapsKeepBefore, SwapsKeepInvocations, SwapsPermute, SwapsUndone, VetoedExactlyWhere, VetoesExplain, VetoesLeast};
 
 /// Swaps can bring the steps of each invocation together exactly where all invocations can be placed.
 pub fn free_exactly_where_placed()
@@ -40,9 +40,19 @@ pub fn swaps_undone()
     ensures { SwapsUndone }
 {}
 
+/// An order that keeps what is before what is reached by as many legal swaps as pairs of steps are out of it.
+pub fn swaps_into_order()
+    ensures { SwapsIntoOrder }
+{}
+
 /// An invocation is before another exactly where two places of the trace say so.
 pub fn before_exactly_where()
     ensures { BeforeExactlyWhere }
+{}
+
+/// The members of a trace are the invocations that have steps in it, rising.
+pub fn members_are()
+    ensures { MembersAre }
 {}
 
 /// The placing lists distinct invocations that have steps.
@@ -85,9 +95,24 @@ pub fn vetoes_least()
     ensures { VetoesLeast }
 {}
 
+/// A veto's cycle and number of steps are those of its object's trace.
+pub fn vetoes_explain()
+    ensures { VetoesExplain }
+{}
+
+/// An approval lists the named orders, objects rising.
+pub fn approves_orders()
+    ensures { ApprovesOrders }
+{}
+
 /// An approval means that the trace of each object is free.
 pub fn approves_free()
     ensures { ApprovesFree }
+{}
+
+/// A veto is given exactly where the trace of some object isn't free.
+pub fn vetoed_exactly_where()
+    ensures { VetoedExactlyWhere }
 {}
 
 /// A bank that pays before it clears the debt is vetoed.
