@@ -1,7 +1,7 @@
 -- The verdicts on the cases, by computation.
 use Rattle.std.proofs.Common.{◌≡◌, ℕ, refl, arith}
 use Rattle.ecf_verdicts.specs.Before.{before}
-use Rattle.ecf_verdicts.specs.Cases.{pays_first, PaysFirst, ClearsFirst, CallbackFirst, three_in_a_ring, ThreeInARing, apart, ApartYetFree, equal_values, EqualValuesConflict, CalledInside, called_outside, CalledOutside, TwoReaders, first_reader_again, FirstReaderAgain, TwoCalls, two_objects, TwoObjects, two_cycles, TwoCycles, start_outside, StartOutside, writes, x}
+use Rattle.ecf_verdicts.specs.Cases.{pays_first, PaysFirst, ClearsFirst, CallbackFirst, three_in_a_ring, ThreeInARing, apart, ApartYetFree, equal_values, EqualValuesConflict, CalledInside, called_outside, CalledOutside, TwoReaders, first_reader_again, FirstReaderAgain, TwoCalls, two_objects, TwoObjects, two_cycles, TwoCycles, start_outside, StartOutside, reverts_later, RevertsLater, writes, x}
 use Rattle.ecf_verdicts.specs.Conflicts.{same_cell, conflicts}
 use Rattle.ecf_verdicts.specs.Cycles.{least_before, is_among, up_to, from, until, least, begun_at_least, walk, cycle_in, cycle, is_placed, shortest, at}
 use Rattle.ecf_verdicts.specs.Free.{IsTogether}
@@ -76,3 +76,7 @@ two_cycles_case = (refl, not_free (trace two_cycles 0) refl)
 pub start_outside_case : StartOutside
 unfolding computing
 start_outside_case = (refl, not_free (trace start_outside 0) refl)
+
+pub reverts_later_case : RevertsLater
+unfolding computing
+reverts_later_case = (refl, not_free (trace reverts_later 0) refl)

@@ -24,11 +24,11 @@ abbrev Around : List Step → List ℕ → Type 0
 Around t [] = Unit {0}
 Around t (x ∷ xs) = Chain t (x ∷ (xs ++ x ∷ []))
 
-abbrev Distinct : List ℕ → Type 0
+abbrev pub Distinct : List ℕ → Type 0
 Distinct xs = Pairs (λ i j. i ≢ j) xs
 
 -- distinct numbers of a list are no more than the list has
-no_more : (xs ys : List ℕ) → Distinct xs → Each (λ x. In x ys) xs → length xs ≤ length ys
+pub no_more : (xs ys : List ℕ) → Distinct xs → Each (λ x. In x ys) xs → length xs ≤ length ys
 no_more [] ys d h = omega arith
 no_more (x ∷ xs) ys d h =
     let deep = no_more xs (without x ys) d.1 (Each_from (λ z. In z (without x ys)) xs (λ z i. In_without_from x ys z (Each_at (λ w. In w ys) xs z h.1 i) (λ e. Each_at (λ j. x ≢ j) xs z d.0 i (sym e)))) in

@@ -3,6 +3,7 @@ pub mod CasesProved
 pub mod Conflict
 pub mod CycleLaws
 pub mod FreePlaced
+pub mod JournalLaws
 pub mod Lists
 pub mod MemberLaws
 pub mod Members
@@ -10,6 +11,7 @@ pub mod Place
 pub mod PlaceLaws
 pub mod Ranks
 pub mod Rising
+pub mod SerialProved
 pub mod Single
 pub mod Sorting
 pub mod SwapLaws

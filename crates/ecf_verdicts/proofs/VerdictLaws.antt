@@ -31,7 +31,7 @@ no_trace (s ∷ rest) o n =
     rw (ne_eqb s.cell.object o (λ e. n (subst (λ x. In x (join s.cell.object (objects rest))) e (In_join_new s.cell.object (objects rest)))))
     (no_trace rest o (λ i. n (In_join_old o s.cell.object (objects rest) i)))
 
-cases_in : (o : ℕ) (xs : List ℕ) → In o xs ⊎ (In o xs → ⊥)
+pub cases_in : (o : ℕ) (xs : List ℕ) → In o xs ⊎ (In o xs → ⊥)
 cases_in o [] = inr (λ h. h)
 cases_in o (x ∷ xs) = elim (cases_eq o x) [
   | inl e ↦ inl (inl e)

@@ -3,6 +3,10 @@ use Rattle.std.specs.Prelude.{◌≡◌, ℕ, true, false, List, [], ◌∷◌, 
 use Rattle.ecf_lang.specs.declared.cell.Cell.{Cell}
 use Rattle.ecf_lang.specs.declared.receipt.Order.{Order}
 use Rattle.ecf_lang.specs.declared.run.Step.{Step}
+use Rattle.ecf_lang.specs.declared.receipt.Receipt.TheVariants as receipt
+use Rattle.ecf_lang.specs.declared.run.Cause.TheVariants.{User}
+use Rattle.ecf_lang.specs.declared.run.Outcome.TheVariants as outcome
+use Rattle.ecf_verdicts.specs.Receipts.{receipt_of}
 use Rattle.ecf_verdicts.specs.Free.{Free, IsTogether}
 use Rattle.ecf_verdicts.specs.Swaps.{swaps}
 use Rattle.ecf_verdicts.specs.Traces.{trace}
@@ -158,3 +162,10 @@ start_outside = writes 2 x 1 ∷ writes 4 x 1 ∷ writes 2 x 1 ∷ writes 4 y 1 
 
 abbrev pub StartOutside : Type 0
 StartOutside = (verdict start_outside ≡ Vetoed 0 3 (2 ∷ 4 ∷ [])) × (Free (trace start_outside 0) → ⊥)
+
+-- a run whose trace isn't free, and which then reverts: only a run that answered is judged
+abbrev pub reverts_later : List Step
+reverts_later = writes 0 x 1 ∷ reads 2 x 1 ∷ writes 2 x 2 ∷ writes 0 x 2 ∷ []
+
+abbrev pub RevertsLater : Type 0
+RevertsLater = (receipt_of (outcome.Reverted (User 9)) 54 reverts_later ≡ receipt.Reverted (User 9) 54) × (Free (trace reverts_later 0) → ⊥)

@@ -2,8 +2,9 @@
 //! `specs/`; each function here is a law about them, or a case worked out, and does nothing.
 #![tactic(auto)]
 
-ghost use Rattle.ecf_verdicts.specs.Cases.{ApartYetFree, CallbackFirst, CalledInside, CalledOutside, ClearsFirst, EqualValuesConflict, FirstReaderAgain, PaysFirst, StartOutside, ThreeInARing, TwoCalls, TwoCycles, TwoObjects, TwoReaders};
+ghost use Rattle.ecf_verdicts.specs.Cases.{ApartYetFree, CallbackFirst, CalledInside, CalledOutside, ClearsFirst, EqualValuesConflict, FirstReaderAgain, PaysFirst, RevertsLater, StartOutside, ThreeInARing, TwoCalls, TwoCycles, TwoObjects, TwoReaders};
 ghost use Rattle.ecf_verdicts.specs.Laws.{ApprovesFree, ApprovesOrders, AtIsShortest, BeforeExactlyWhere, CycleNamed, FirstPartsFree, FreeExactlyWherePlaced, MembersAre, MembersPlacedOrRest, PlacedKeepsBefore, PlacesMembers, RestIsStuck, SingleApproved, SingleFree, SwapsIntoOrder, SwapsKeepBefore, SwapsKeepInvocations, SwapsPermute, SwapsUndone, VetoedExactlyWhere, VetoesExplain, VetoesLeast};
+ghost use Rattle.ecf_verdicts.specs.SerialLaws.{FirstPartsLegal, LegalWhenWhole, ReceiptEach, SerialGoesOn, VetoedWhereNotFree};
 
 /// Swaps can bring the steps of each invocation together exactly where all invocations can be placed.
 pub fn free_exactly_where_placed()
@@ -115,6 +116,31 @@ pub fn vetoed_exactly_where()
     ensures { VetoedExactlyWhere }
 {}
 
+/// A transaction is vetoed exactly where its run answers and swaps can't bring the steps on some object together.
+pub fn vetoed_where_not_free()
+    ensures { VetoedWhereNotFree }
+{}
+
+/// Further transactions go on from the store that the earlier ones leave.
+pub fn serial_goes_on()
+    ensures { SerialGoesOn }
+{}
+
+/// A serial run has one receipt for each transaction.
+pub fn receipt_each()
+    ensures { ReceiptEach }
+{}
+
+/// Each first part of a legal journal is legal so far.
+pub fn first_parts_legal()
+    ensures { FirstPartsLegal }
+{}
+
+/// A journal so far that has all places is legal.
+pub fn legal_when_whole()
+    ensures { LegalWhenWhole }
+{}
+
 /// A bank that pays before it clears the debt is vetoed.
 pub fn pays_first_case()
     ensures { PaysFirst }
@@ -183,4 +209,9 @@ pub fn two_cycles_case()
 /// The least of those that cannot be placed need not be in the cycle.
 pub fn start_outside_case()
     ensures { StartOutside }
+{}
+
+/// A run that reverts is not judged.
+pub fn reverts_later_case()
+    ensures { RevertsLater }
 {}
