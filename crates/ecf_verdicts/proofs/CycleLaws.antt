@@ -5,7 +5,7 @@ use Rattle.std.proofs.lemmas.List.{get_or_append_left, get_or_at}
 use Rattle.ecf_lang.specs.declared.run.Step.{Step}
 use Rattle.ecf_verdicts.specs.Before.{before}
 use Rattle.ecf_verdicts.specs.Cycles.{least_before, is_among, up_to, from, until, least, begun_at_least, walk, cycle_in, cycle}
-use Rattle.ecf_verdicts.specs.Laws.{IsCycle, CycleNamed}
+use Rattle.ecf_verdicts.specs.Laws.{IsCycle, CycleNamed, MovesSuffice}
 use Rattle.ecf_verdicts.specs.Placing.{without, placing}
 use Rattle.ecf_verdicts.proofs.Conflict.{before_self}
 use Rattle.ecf_verdicts.proofs.FreePlaced.{find_some, find_none, cases_next, free_from_placed}
@@ -267,3 +267,22 @@ in_rest t (i ∷ is) s n = by_places t _ (begun t _ (walked t (i ∷ is) s (leng
 pub cycle_named : CycleNamed
 unfolding cycle
 cycle_named t n = in_rest t (placing t).rest (rest_stuck t) (λ e. n (free_from_placed t e))
+
+-- more moves change nothing
+walk_more : (t : List Step) (rest : List ℕ) → Stuck t rest → (n m present : ℕ) (earlier : List ℕ) → n ≤ m → Chain t (present ∷ earlier) → Distinct (present ∷ earlier) → Each (λ x. In x rest) (present ∷ earlier) → length rest ≤ n + length earlier → walk t rest m present earlier ≡ walk t rest n present earlier
+walk_more t rest s zero m present earlier less chain d inside room = absurd (omega (arith, no_more (present ∷ earlier) rest d inside, room))
+walk_more t rest s (suc n) zero present earlier less chain d inside room = absurd (omega arith)
+walk_more t rest s (suc n) (suc m) present earlier less chain d inside room = go (cases_Bool (is_among next.0 (present ∷ earlier))) (λ f. walk_more t rest s n m next.0 (present ∷ earlier) (omega arith) (next.3, chain) (fresh f, d) (next.2, inside) (omega (arith, room)))
+  where
+    next : (i : ℕ) × (least_before t rest present ≡ Some i) × In i rest × (before t i present ≡ true)
+    next = next_back t rest s present inside.0
+
+    fresh : is_among next.0 (present ∷ earlier) ≡ false → Each (λ j. next.0 ≢ j) (present ∷ earlier)
+    fresh f = Each_from (λ j. next.0 ≢ j) (present ∷ earlier) (λ j h e. not_among next.0 (present ∷ earlier) f (subst (λ w. In w (present ∷ earlier)) (sym e) h))
+
+    go : (is_among next.0 (present ∷ earlier) ≡ true) ⊎ (is_among next.0 (present ∷ earlier) ≡ false) → (is_among next.0 (present ∷ earlier) ≡ false → walk t rest m next.0 (present ∷ earlier) ≡ walk t rest n next.0 (present ∷ earlier)) → walk t rest (suc m) present earlier ≡ walk t rest (suc n) present earlier
+    go (inl e) deep = walk_ends t rest m present earlier next.0 next.1 e ∙ sym (walk_ends t rest n present earlier next.0 next.1 e)
+    go (inr f) deep = walk_none t rest m present earlier next.0 next.1 f ∙ deep f ∙ sym (walk_none t rest n present earlier next.0 next.1 f)
+
+pub moves_suffice : MovesSuffice
+moves_suffice t i is e n h = walk_more t (i ∷ is) (subst (λ r. Stuck t r) e (rest_stuck t)) (length (i ∷ is)) n i [] h tt (tt, tt) (inl refl, tt) (omega arith)

@@ -1,5 +1,5 @@
 -- Legal journals and their first parts.
-use Rattle.std.proofs.Common.{◌≡◌, ℕ, suc, zero, ◌+◌, ◌<◌, ◌≤◌, ◌≢◌, Bool, true, false, cond, ◌==◌, List, [], ◌∷◌, ◌++◌, filter, length, take, drop, get_or, IsPermutation, take-append-drop, inl, inr, refl, sym, ap, ◌∙◌, subst, arith}
+use Rattle.std.proofs.Common.{◌≡◌, ℕ, suc, zero, ◌+◌, ◌<◌, ◌≤◌, ◌≢◌, Bool, true, false, cond, ◌==◌, List, [], ◌∷◌, ◌++◌, length, take, drop, get_or, IsPermutation, take-append-drop, inl, inr, refl, sym, ap, ◌∙◌, subst, arith}
 use Rattle.std.specs.List.{range_with_len}
 use Rattle.std.proofs.lemmas.Bool.{cases_eq, eqb-true, eq-eqb}
 use Rattle.std.proofs.lemmas.List.{take_at}
@@ -8,8 +8,8 @@ use Rattle.std.proofs.lemmas.List.Sorted.{Contains-permutation, IsPermutation-re
 use Rattle.ecf_lang.specs.declared.tx.Tx.{Tx}
 use Rattle.ecf_verdicts.specs.Journals.{places, submitter_at, of_submitter}
 use Rattle.ecf_verdicts.specs.SerialLaws.{FirstPartsLegal, LegalWhenWhole}
-use Rattle.ecf_verdicts.proofs.Lists.{Each, In, Pairs, Each_from, Each_at, Each_weaker, Each_filter, Each_from_all, All_from_Each, Pairs_at, In_filter, In_filter_from, Contains_from_In, In_from_Contains}
-use Rattle.ecf_verdicts.proofs.Rising.{Rising}
+use Rattle.ecf_verdicts.proofs.Lists.{Each, In, Pairs, Each_from, Each_at, Each_weaker, Each_from_all, All_from_Each, Pairs_at, In_filter, In_filter_from, Contains_from_In, In_from_Contains}
+use Rattle.ecf_verdicts.proofs.Rising.{Rising, filter_rises}
 
 -- the range
 range_low : (a n x : ℕ) → In x (range_with_len a n) → a ≤ x
@@ -51,14 +51,6 @@ same_rising (x ∷ xs) (y ∷ ys) r s f g =
     (λ z h. elim (f z (inr h)) [ inl e ↦ absurd (omega (arith, Each_at (λ w. x < w) xs z r.0 h, e, same)) | inr k ↦ k ])
     (λ z h. elim (g z (inr h)) [ inl e ↦ absurd (omega (arith, Each_at (λ w. y < w) ys z s.0 h, e, same)) | inr k ↦ k ]) in
     ap (λ w. w ∷ xs) same ∙ ap (λ l. y ∷ l) rest
-
-filter_rises : (p : ℕ → Bool) (xs : List ℕ) → Rising xs → Rising (filter p xs)
-filter_rises p [] r = tt
-filter_rises p (x ∷ xs) r = go (p x) (filter_rises p xs r.1)
-  where
-    go : (b : Bool) → Rising (filter p xs) → Rising (cond b (x ∷ filter p xs) (filter p xs))
-    go true deep = (Each_filter (λ y. x < y) p xs r.0, deep)
-    go false deep = deep
 
 pairs_from_at : (R : ℕ → ℕ → Type 0) (xs : List ℕ) → ((i j d : ℕ) → i < j → j < length xs → R (get_or xs i d) (get_or xs j d)) → Pairs R xs
 pairs_from_at R [] h = tt

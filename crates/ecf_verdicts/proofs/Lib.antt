@@ -4,6 +4,7 @@ pub mod Conflict
 pub mod CycleLaws
 pub mod FreePlaced
 pub mod JournalLaws
+pub mod LeastLaws
 pub mod Lists
 pub mod MemberLaws
 pub mod Members

@@ -1,9 +1,9 @@
 -- Rising lists, and facts by index on them.
-use Rattle.std.proofs.Common.{◌≡◌, ℕ, suc, zero, ◌<◌, List, [], ◌∷◌, length, get_or, Any, add-one, inl, inr, refl, sym, subst, arith}
+use Rattle.std.proofs.Common.{◌≡◌, ℕ, suc, zero, ◌<◌, Bool, true, false, cond, filter, List, [], ◌∷◌, length, get_or, Any, add-one, inl, inr, refl, sym, subst, arith}
 use Rattle.std.specs.List.Sorted.{IsStrictlyIncreasing}
 use Rattle.ecf_lang.specs.declared.run.Step.{Step}
 use Rattle.ecf_verdicts.specs.Traces.{join, members}
-use Rattle.ecf_verdicts.proofs.Lists.{Each, Has, Each_at, Each_from, Each_weaker}
+use Rattle.ecf_verdicts.proofs.Lists.{Each_filter, Each, Has, Each_at, Each_from, Each_weaker}
 use Rattle.ecf_verdicts.proofs.Members.{In_join, join_cases}
 
 -- each number of the list is below the later ones
@@ -45,3 +45,23 @@ Has_from_Any P xs a = go xs a.0 a.1 a.2 a.3 a.4
     go [] k x l e p = absurd (omega arith)
     go (y ∷ ys) zero x l e p = inl (subst P (sym e) p)
     go (y ∷ ys) (suc k) x l e p = inr (go ys k x (omega arith) e p)
+
+pub filter_rises : (p : ℕ → Bool) (xs : List ℕ) → Rising xs → Rising (filter p xs)
+filter_rises p [] r = tt
+filter_rises p (x ∷ xs) r = go (p x) (filter_rises p xs r.1)
+  where
+    go : (b : Bool) → Rising (filter p xs) → Rising (cond b (x ∷ filter p xs) (filter p xs))
+    go true deep = (Each_filter (λ y. x < y) p xs r.0, deep)
+    go false deep = deep
+
+-- back from neighbours
+pub rising_from : (xs : List ℕ) → IsStrictlyIncreasing xs → Rising xs
+rising_from [] h = tt
+rising_from (x ∷ []) h = (tt, tt)
+rising_from (x ∷ y ∷ ys) h =
+    let deep = rising_from (y ∷ ys) (λ k l. rw (add-one k) (at_suc k (omega (arith, l)))) in
+    let first : x < y = h 0 (omega arith) in
+    ((first, Each_weaker _ _ ys (λ z less. omega (arith, less, first)) deep.0), deep)
+  where
+    at_suc : (k : ℕ) → suc k < length (y ∷ ys) → get_or (y ∷ ys) k 0 < get_or (y ∷ ys) (suc k) 0
+    at_suc k l = rw (add-one (suc k)) at (h (suc k) (omega (arith, l)))

@@ -1,6 +1,10 @@
 -- What legal swaps keep, and that they can be undone.
-use Rattle.std.proofs.Common.{◌≡◌, ℕ, suc, zero, Bool, true, false, cond, ◌==◌, eqb, List, [], ◌∷◌, ◌++◌, map, take, filter, IsPermutation, Some, inl, inr, refl, sym, ap, ◌∙◌}
-use Rattle.std.proofs.lemmas.Bool.{both_ways, eqb-true, eq-eqb, and_parts, not-true}
+use Rattle.std.proofs.Common.{◌≡◌, ℕ, suc, zero, Bool, true, false, cond, not, ◌&&◌, ◌==◌, eqb, List, [], ◌∷◌, ◌++◌, map, take, filter, IsPermutation, Some, inl, inr, refl, sym, ap, ◌∙◌}
+use Rattle.ecf_lang.specs.declared.cell.Cell.{Cell}
+use Rattle.ecf_verdicts.specs.Conflicts.{conflicts, same_cell}
+use Rattle.ecf_verdicts.specs.Laws.{SwapsKeepWrites}
+use Rattle.ecf_verdicts.proofs.Swapped.{no_conflict}
+use Rattle.std.proofs.lemmas.Bool.{both_ways, eqb-true, eq-eqb, ne_eqb, and_parts, and_from, or_left, not-true}
 use Rattle.std.proofs.lemmas.List.Sorted.{IsPermutation-refl, IsPermutation-trans, IsPermutation-cons, IsPermutation-middle}
 use Rattle.ecf_lang.specs.declared.run.Step.{Step}
 use Rattle.ecf_verdicts.specs.Laws.{SwapsPermute, SwapsKeepInvocations, SwapsKeepBefore, SwapsUndone, FirstPartsFree}
@@ -32,6 +36,39 @@ pub swaps_keep_invocations : SwapsKeepInvocations
 swaps_keep_invocations t places u e i = swaps_keep (λ t u. filter (λ (s : Step). s.inv == i) u ≡ filter (λ (s : Step). s.inv == i) t)
     (λ a b rest e. filter_here a b rest i (a.inv == i) (b.inv == i) refl refl e)
     (λ a t u h. ap (λ l. cond (a.inv == i) (a ∷ l) l) h)
+    (λ t. refl)
+    (λ t u v h k. k ∙ h)
+    places t u e
+
+same_cell_parts : (a b : Cell) → same_cell a b ≡ true → (a.object ≡ b.object) × (a.field ≡ b.field) × (a.key ≡ b.key)
+unfolding same_cell
+same_cell_parts a b e = let p = and_parts _ _ e in let q = and_parts _ _ p.1 in (eqb-true _ _ p.0, eqb-true _ _ q.0, eqb-true _ _ q.1)
+
+same_cell_both : (a b c : Cell) → same_cell a c ≡ true → same_cell b c ≡ true → same_cell a b ≡ true
+unfolding same_cell
+same_cell_both a b c e f =
+    let p = same_cell_parts a c e in
+    let q = same_cell_parts b c f in
+    and_from _ _ (eq-eqb _ _ (p.0 ∙ sym q.0)) (and_from _ _ (eq-eqb _ _ (p.1 ∙ sym q.1)) (eq-eqb _ _ (p.2 ∙ sym q.2)))
+
+-- two writes of a cell of different invocations conflict
+writes_conflict : (a b : Step) (c : Cell) → (a.inv ≡ b.inv → ⊥) → (a.write && same_cell a.cell c) ≡ true → (b.write && same_cell b.cell c) ≡ true → conflicts a b ≡ true
+unfolding conflicts
+writes_conflict a b c n e f =
+    let p = and_parts _ _ e in
+    let q = and_parts _ _ f in
+    and_from _ _ (ap not (ne_eqb a.inv b.inv n)) (and_from _ _ (same_cell_both a.cell b.cell c p.1 q.1) (or_left _ _ p.0))
+
+writes_here : (a b : Step) (rest : List Step) (c : Cell) (m n : Bool) → (a.write && same_cell a.cell c) ≡ m → (b.write && same_cell b.cell c) ≡ n → may_swap a b ≡ true →
+    filter (λ (s : Step). s.write && same_cell s.cell c) (b ∷ a ∷ rest) ≡ filter (λ (s : Step). s.write && same_cell s.cell c) (a ∷ b ∷ rest)
+writes_here a b rest c true true e f s = absurd (both_ways _ (no_conflict a b s) (writes_conflict a b c (other_inv a b s) e f))
+writes_here a b rest c true false e f s = rw (e, f) refl
+writes_here a b rest c false n e f s = rw e refl
+
+pub swaps_keep_writes : SwapsKeepWrites
+swaps_keep_writes t places u e c = swaps_keep (λ t u. filter (λ (s : Step). s.write && same_cell s.cell c) u ≡ filter (λ (s : Step). s.write && same_cell s.cell c) t)
+    (λ a b rest e. writes_here a b rest c (a.write && same_cell a.cell c) (b.write && same_cell b.cell c) refl refl e)
+    (λ a t u h. ap (λ l. cond (a.write && same_cell a.cell c) (a ∷ l) l) h)
     (λ t. refl)
     (λ t u v h k. k ∙ h)
     places t u e

@@ -39,7 +39,7 @@ cases_in o (x ∷ xs) = elim (cases_eq o x) [
 ]
 
 -- what is found in a rising list is the least that passes
-find_least : (p : ℕ → Bool) (xs : List ℕ) (x y : ℕ) → Rising xs → find p xs ≡ Some x → In y xs → y < x → p y ≡ false
+pub find_least : (p : ℕ → Bool) (xs : List ℕ) (x y : ℕ) → Rising xs → find p xs ≡ Some x → In y xs → y < x → p y ≡ false
 find_least p [] x y r e i l = absurd i
 find_least p (z ∷ zs) x y r e i l = elim (cases_Bool (p z)) [
   | inl t ↦ (let same : z ≡ x = Rattle.ecf_verdicts.proofs.Swapped.Some_same _ _ (rw t at e) in

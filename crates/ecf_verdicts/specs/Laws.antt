@@ -1,13 +1,14 @@
 -- What the definitions promise.
 use Rattle.std.specs.List.Sorted.{IsNonDecreasingBy, IsStrictlyIncreasing}
-use Rattle.std.specs.Prelude.{⊤, nat_lt, map, Any, ◌≡◌, ◌↔◌, ◌≢◌, ◌⊎◌, ◌==◌, ◌<◌, ◌≤◌, ◌+◌, ◌-◌, ℕ, true, List, [], ◌∷◌, All, AllPairs, Contains, IsPermutation, Some, filter, length, slice_index, slice_index_or, take}
+use Rattle.std.specs.Prelude.{◌&&◌, ⊤, nat_lt, map, Any, ◌≡◌, ◌↔◌, ◌≢◌, ◌⊎◌, ◌==◌, ◌<◌, ◌≤◌, ◌+◌, ◌-◌, ℕ, true, List, [], ◌∷◌, All, AllPairs, Contains, IsPermutation, Some, filter, length, slice_index, slice_index_or, take}
+use Rattle.ecf_lang.specs.declared.cell.Cell.{Cell}
 use Rattle.ecf_lang.specs.declared.receipt.Order.{Order}
 use Rattle.ecf_lang.specs.declared.run.Step.{Step}
 use Rattle.ecf_verdicts.specs.Before.{before}
-use Rattle.ecf_verdicts.specs.Conflicts.{conflicts}
-use Rattle.ecf_verdicts.specs.Cycles.{at, cycle}
+use Rattle.ecf_verdicts.specs.Conflicts.{conflicts, same_cell}
+use Rattle.ecf_verdicts.specs.Cycles.{at, cycle, least_before, walk}
 use Rattle.ecf_verdicts.specs.Free.{Free}
-use Rattle.ecf_verdicts.specs.Placing.{placing}
+use Rattle.ecf_verdicts.specs.Placing.{next_placed, placing}
 use Rattle.ecf_verdicts.specs.Swaps.{swaps}
 use Rattle.ecf_verdicts.specs.Traces.{members, trace}
 use Rattle.ecf_verdicts.specs.Verdicts.{Verdict, Approved, Vetoed, verdict}
@@ -31,6 +32,10 @@ SwapsPermute = (t : List Step) (places : List ℕ) (u : List Step) → swaps t p
 -- legal swaps keep the order of each invocation's steps
 abbrev pub SwapsKeepInvocations : Type 0
 SwapsKeepInvocations = (t : List Step) (places : List ℕ) (u : List Step) → swaps t places ≡ Some u → (inv : ℕ) → filter (λ s. s.inv == inv) u ≡ filter (λ s. s.inv == inv) t
+
+-- legal swaps keep the order of the writes of each cell
+abbrev pub SwapsKeepWrites : Type 0
+SwapsKeepWrites = (t : List Step) (places : List ℕ) (u : List Step) → swaps t places ≡ Some u → (c : Cell) → filter (λ s. s.write && same_cell s.cell c) u ≡ filter (λ s. s.write && same_cell s.cell c) t
 
 -- legal swaps keep which invocation is before which
 abbrev pub SwapsKeepBefore : Type 0
@@ -85,6 +90,25 @@ MembersPlacedOrRest = (t : List Step) → All (λ i. Contains (placing t).placed
 -- each of the rest has one of the rest before it, so that nothing more can be placed
 abbrev pub RestIsStuck : Type 0
 RestIsStuck = (t : List Step) → All (λ j. (i : ℕ) × Contains (placing t).rest i × (before t i j ≡ true)) (placing t).rest
+
+-- the rest rises
+abbrev pub RestRises : Type 0
+RestRises = (t : List Step) → IsStrictlyIncreasing (placing t).rest
+
+-- of rising unplaced invocations the next is the least that none of them is before
+abbrev pub NextIsLeast : Type 0
+NextIsLeast = (t : List Step) (unplaced : List ℕ) (j : ℕ) → IsStrictlyIncreasing unplaced → next_placed t unplaced ≡ Some j →
+    Contains unplaced j × ((i : ℕ) → Contains unplaced i → before t i j ≡ true → ⊥)
+    × ((k : ℕ) → Contains unplaced k → k < j → (i : ℕ) × Contains unplaced i × (before t i k ≡ true))
+
+-- the walk goes to the least of a rising rest that is before the present one
+abbrev pub StepIsLeast : Type 0
+StepIsLeast = (t : List Step) (rest : List ℕ) (j i : ℕ) → IsStrictlyIncreasing rest → least_before t rest j ≡ Some i →
+    Contains rest i × (before t i j ≡ true) × ((k : ℕ) → Contains rest k → k < i → before t k j ≡ true → ⊥)
+
+-- the walk never ends for want of moves: with more of them it gives the same
+abbrev pub MovesSuffice : Type 0
+MovesSuffice = (t : List Step) (i : ℕ) (is : List ℕ) → (placing t).rest ≡ i ∷ is → (n : ℕ) → length (i ∷ is) ≤ n → walk t (i ∷ is) n i [] ≡ walk t (i ∷ is) (length (i ∷ is)) i []
 
 -- a cycle: several invocations, none twice, the least first, each before the next and the last before the first
 pub record IsCycle (t : List Step) (c : List ℕ) : Type 0 where

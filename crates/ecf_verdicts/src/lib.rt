@@ -3,7 +3,7 @@
 #![tactic(auto)]
 
 ghost use Rattle.ecf_verdicts.specs.Cases.{ApartYetFree, CallbackFirst, CalledInside, CalledOutside, ClearsFirst, EqualValuesConflict, FirstReaderAgain, PaysFirst, RevertsLater, StartOutside, ThreeInARing, TwoCalls, TwoCycles, TwoObjects, TwoReaders};
-ghost use Rattle.ecf_verdicts.specs.Laws.{ApprovesFree, ApprovesOrders, AtIsShortest, BeforeExactlyWhere, CycleNamed, FirstPartsFree, FreeExactlyWherePlaced, MembersAre, MembersPlacedOrRest, PlacedKeepsBefore, PlacesMembers, RestIsStuck, SingleApproved, SingleFree, SwapsIntoOrder, SwapsKeepBefore, SwapsKeepInvocations, SwapsPermute, SwapsUndone, VetoedExactlyWhere, VetoesExplain, VetoesLeast};
+ghost use Rattle.ecf_verdicts.specs.Laws.{ApprovesFree, ApprovesOrders, AtIsShortest, BeforeExactlyWhere, CycleNamed, FirstPartsFree, FreeExactlyWherePlaced, MembersAre, MembersPlacedOrRest, MovesSuffice, NextIsLeast, PlacedKeepsBefore, PlacesMembers, RestIsStuck, RestRises, SingleApproved, SingleFree, StepIsLeast, SwapsIntoOrder, SwapsKeepBefore, SwapsKeepInvocations, SwapsKeepWrites, SwapsPermute, SwapsUndone, VetoedExactlyWhere, VetoesExplain, VetoesLeast};
 ghost use Rattle.ecf_verdicts.specs.SerialLaws.{FirstPartsLegal, LegalWhenWhole, ReceiptEach, SerialGoesOn, VetoedWhereNotFree};
 
 /// Swaps can bring the steps of each invocation together exactly where all invocations can be placed.
@@ -29,6 +29,11 @@ pub fn swaps_permute()
 /// Legal swaps keep the order of each invocation's steps.
 pub fn swaps_keep_invocations()
     ensures { SwapsKeepInvocations }
+{}
+
+/// Legal swaps keep the order of each cell's writes.
+pub fn swaps_keep_writes()
+    ensures { SwapsKeepWrites }
 {}
 
 /// Legal swaps keep which invocation is before which.
@@ -74,6 +79,26 @@ pub fn members_placed_or_rest()
 /// The placing ends only where nothing more can be placed.
 pub fn rest_is_stuck()
     ensures { RestIsStuck }
+{}
+
+/// What cannot be placed rises.
+pub fn rest_rises()
+    ensures { RestRises }
+{}
+
+/// The next to be placed is the least that may be.
+pub fn next_is_least()
+    ensures { NextIsLeast }
+{}
+
+/// The walk goes to the least that is before the present one.
+pub fn step_is_least()
+    ensures { StepIsLeast }
+{}
+
+/// The walk never ends for want of moves.
+pub fn moves_suffice()
+    ensures { MovesSuffice }
 {}
 
 /// The named cycle of a trace that isn't free is a cycle, begun with its least member.
