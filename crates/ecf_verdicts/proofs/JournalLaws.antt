@@ -1,13 +1,13 @@
 -- Legal journals and their first parts.
-use Rattle.std.proofs.Common.{◌≡◌, ℕ, suc, zero, ◌+◌, ◌<◌, ◌≤◌, ◌≢◌, Bool, true, false, cond, ◌==◌, List, [], ◌∷◌, ◌++◌, length, take, drop, get_or, IsPermutation, take-append-drop, inl, inr, refl, sym, ap, ◌∙◌, subst, arith}
-use Rattle.std.specs.List.{range_with_len}
+use Rattle.std.proofs.Common.{◌≡◌, ℕ, suc, zero, ◌+◌, ◌<◌, ◌≤◌, ◌≢◌, Bool, true, false, cond, ◌==◌, List, [], ◌∷◌, ◌++◌, length, take, drop, get_or, IsPermutation, take-append-drop, inl, inr, refl, sym, ap, ◌∙◌, subst, arith, filter_map, slice_get, Some, add-one}
+use Rattle.std.specs.List.{range_with_len, cons_option}
 use Rattle.std.proofs.lemmas.Bool.{cases_eq, eqb-true, eq-eqb}
 use Rattle.std.proofs.lemmas.List.{take_at}
 use Rattle.std.proofs.lemmas.List.Elements.{filter-append}
 use Rattle.std.proofs.lemmas.List.Sorted.{Contains-permutation, IsPermutation-refl, IsPermutation-sym, IsPermutation-trans, IsPermutation-cons, IsPermutation-middle}
 use Rattle.ecf_lang.specs.declared.tx.Tx.{Tx}
-use Rattle.ecf_verdicts.specs.Journals.{places, submitter_at, of_submitter}
-use Rattle.ecf_verdicts.specs.SerialLaws.{FirstPartsLegal, LegalWhenWhole}
+use Rattle.ecf_verdicts.specs.Journals.{along, places, submitter_at, of_submitter}
+use Rattle.ecf_verdicts.specs.SerialLaws.{FirstPartsLegal, LegalWhenWhole, AlongPlaces, AlongEach}
 use Rattle.ecf_verdicts.proofs.Lists.{Each, In, Pairs, Each_from, Each_at, Each_weaker, Each_from_all, All_from_Each, Pairs_at, In_filter, In_filter_from, Contains_from_In, In_from_Contains}
 use Rattle.ecf_verdicts.proofs.Rising.{Rising, filter_rises}
 
@@ -159,3 +159,24 @@ legal_when_whole txs journal so_far long =
       each_once = IsPermutation-sym journal (places txs) (permuted journal (places txs) (distinct_turns txs journal turns) (Each_weaker _ _ journal (λ p l. in_range 0 (length txs) p (omega arith) (omega arith)) known) (long ∙ sym (length_range 0 (length txs))));
       in_turn = Pairs_at (λ p q. submitter_at txs p ≡ submitter_at txs q → p < q) journal turns;
     }
+
+-- the transactions at places
+along_tail : (x : Tx) (xs : List Tx) (a n : ℕ) → filter_map (λ p. slice_get (x ∷ xs) p) (range_with_len (suc a) n) ≡ filter_map (λ p. slice_get xs p) (range_with_len a n)
+along_tail x xs a zero = refl
+along_tail x xs a (suc n) = rw (add-one (suc a), add-one a) (ap (λ l. cons_option (slice_get xs a) l) (along_tail x xs (suc a) n))
+
+pub along_places : AlongPlaces
+along_places [] = refl
+along_places (x ∷ xs) = ap (λ l. x ∷ l) (along_tail x xs 0 (length xs) ∙ along_places xs)
+
+read_there : (xs : List Tx) (p : ℕ) → p < length xs → (x : Tx) × (slice_get xs p ≡ Some x)
+read_there [] p h = absurd (omega arith)
+read_there (x ∷ xs) zero h = (x, refl)
+read_there (x ∷ xs) (suc p) h = read_there xs p (omega arith)
+
+along_known : (txs : List Tx) (js : List ℕ) → Each (λ p. p < length txs) js → length (along txs js) ≡ length js
+along_known txs [] h = refl
+along_known txs (j ∷ js) h = let r = read_there txs j h.0 in rw r.1 (ap suc (along_known txs js h.1))
+
+pub along_each : AlongEach
+along_each txs journal legal = along_known txs journal (Each_from_all (λ p. p < length txs) journal legal.known)

@@ -129,6 +129,7 @@ pub record IsShortest (t : List Step) (n : ℕ) : Type 0 where
   pub not_free : Free (take n t) → ⊥
   pub shorter_free : (m : ℕ) → m < n → Free (take m t)
 
+-- a veto's number of steps is that of the shortest first part that isn't free
 abbrev pub AtIsShortest : Type 0
 AtIsShortest = (t : List Step) → (Free t → ⊥) → IsShortest t (at t)
 
@@ -144,11 +145,12 @@ VetoesExplain = (steps : List Step) (o n : ℕ) (c : List ℕ) → verdict steps
 abbrev pub ApprovesFree : Type 0
 ApprovesFree = (steps : List Step) (orders : List Order) → verdict steps ≡ Approved orders → (o : ℕ) → Free (trace steps o)
 
--- a veto is given exactly where the trace of some object isn't free
+-- the verdict is a veto
 abbrev pub IsVeto : Verdict → Type 0
 IsVeto (Approved orders) = ⊥
 IsVeto (Vetoed o n c) = ⊤
 
+-- a veto is given exactly where the trace of some object isn't free
 abbrev pub VetoedExactlyWhere : Type 0
 VetoedExactlyWhere = (steps : List Step) → IsVeto (verdict steps) ↔ (o : ℕ) × (Free (trace steps o) → ⊥)
 
@@ -158,5 +160,6 @@ pub record ListsOrders (steps : List Step) (orders : List Order) : Type 0 where
   pub named : All (λ r. r.invs ≡ (placing (trace steps r.object)).placed) orders
   pub where_several : (o : ℕ) → Any (λ r. r.object ≡ o) orders ↔ (2 ≤ length (members (trace steps o)))
 
+-- so each approval lists its orders
 abbrev pub ApprovesOrders : Type 0
 ApprovesOrders = (steps : List Step) (orders : List Order) → verdict steps ≡ Approved orders → ListsOrders steps orders

@@ -4,7 +4,7 @@
 
 ghost use Rattle.ecf_verdicts.specs.Cases.{ApartYetFree, CallbackFirst, CalledInside, CalledOutside, ClearsFirst, EqualValuesConflict, FirstReaderAgain, PaysFirst, RevertsLater, StartOutside, ThreeInARing, TwoCalls, TwoCycles, TwoObjects, TwoReaders};
 ghost use Rattle.ecf_verdicts.specs.Laws.{ApprovesFree, ApprovesOrders, AtIsShortest, BeforeExactlyWhere, CycleNamed, FirstPartsFree, FreeExactlyWherePlaced, MembersAre, MembersPlacedOrRest, MovesSuffice, NextIsLeast, PlacedKeepsBefore, PlacesMembers, RestIsStuck, RestRises, SingleApproved, SingleFree, StepIsLeast, SwapsIntoOrder, SwapsKeepBefore, SwapsKeepInvocations, SwapsKeepWrites, SwapsPermute, SwapsUndone, VetoedExactlyWhere, VetoesExplain, VetoesLeast};
-ghost use Rattle.ecf_verdicts.specs.SerialLaws.{FirstPartsLegal, LegalWhenWhole, ReceiptEach, SerialGoesOn, VetoedWhereNotFree};
+ghost use Rattle.ecf_verdicts.specs.SerialLaws.{AlongEach, AlongPlaces, CommitKeepsEnd, CommittedWhereFree, FirstPartsLegal, LegalWhenWhole, OnlyCommitChanges, ReceiptEach, SerialAddsOne, SerialBegins, SerialGoesOn, VetoedWhereNotFree};
 
 /// Swaps can bring the steps of each invocation together exactly where all invocations can be placed.
 pub fn free_exactly_where_placed()
@@ -146,6 +146,31 @@ pub fn vetoed_where_not_free()
     ensures { VetoedWhereNotFree }
 {}
 
+/// A transaction is committed exactly where its run answers and the trace of each object is free.
+pub fn committed_where_free()
+    ensures { CommittedWhereFree }
+{}
+
+/// A committed transaction leaves the store of its run's end.
+pub fn commit_keeps_end()
+    ensures { CommitKeepsEnd }
+{}
+
+/// Any other transaction leaves the store as it was.
+pub fn only_commit_changes()
+    ensures { OnlyCommitChanges }
+{}
+
+/// A serial run begins at the contract's initial values.
+pub fn serial_begins()
+    ensures { SerialBegins }
+{}
+
+/// One more transaction adds its receipt on the last store.
+pub fn serial_adds_one()
+    ensures { SerialAddsOne }
+{}
+
 /// Further transactions go on from the store that the earlier ones leave.
 pub fn serial_goes_on()
     ensures { SerialGoesOn }
@@ -154,6 +179,16 @@ pub fn serial_goes_on()
 /// A serial run has one receipt for each transaction.
 pub fn receipt_each()
     ensures { ReceiptEach }
+{}
+
+/// Along all places stand the transactions themselves.
+pub fn along_places()
+    ensures { AlongPlaces }
+{}
+
+/// Along a journal stands one transaction for each place.
+pub fn along_each()
+    ensures { AlongEach }
 {}
 
 /// Each first part of a legal journal is legal so far.
