@@ -1,7 +1,7 @@
 -- The verdicts on the cases, by computation.
 use Rattle.std.proofs.Common.{◌≡◌, ℕ, refl, arith}
 use Rattle.ecf_verdicts.specs.Before.{before}
-use Rattle.ecf_verdicts.specs.Cases.{pays_first, PaysFirst, ClearsFirst, CallbackFirst, three_in_a_ring, ThreeInARing, apart, ApartYetFree, equal_values, EqualValuesConflict, CalledInside, called_outside, CalledOutside, TwoReaders, first_reader_again, FirstReaderAgain, TwoCalls, two_objects, TwoObjects, two_cycles, TwoCycles, start_outside, StartOutside, reverts_later, RevertsLater, writes, x}
+use Rattle.ecf_verdicts.specs.Cases.{pays_first, PaysFirst, ClearsFirst, CallbackFirst, three_in_a_ring, ThreeInARing, apart, ApartYetFree, equal_values, EqualValuesConflict, CalledInside, called_outside, CalledOutside, TwoReaders, first_reader_again, FirstReaderAgain, TwoCalls, two_objects, TwoObjects, two_cycles, TwoCycles, start_outside, StartOutside, reverts_later, RevertsLater}
 use Rattle.ecf_verdicts.specs.Conflicts.{same_cell, conflicts}
 use Rattle.ecf_verdicts.specs.Cycles.{least_before, is_among, up_to, from, until, least, begun_at_least, walk, cycle_in, cycle, is_placed, shortest, at}
 use Rattle.ecf_verdicts.specs.Free.{IsTogether}
@@ -34,7 +34,7 @@ three_in_a_ring_case = (refl, not_free (trace three_in_a_ring 0) refl)
 
 not_together : IsTogether apart → ⊥
 not_together g =
-    let wrong : ◌≡◌ {A = ℕ} 2 0 = g.between 0 1 2 (writes 0 x 1) (omega arith) (omega arith) (omega arith) refl in
+    let wrong : ◌≡◌ {A = ℕ} 2 0 = g.between 0 1 2 (omega arith) (omega arith) (omega arith) refl in
     omega arith
 
 pub apart_case : ApartYetFree

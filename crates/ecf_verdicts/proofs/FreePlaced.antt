@@ -6,14 +6,14 @@ use Rattle.ecf_verdicts.specs.Before.{before}
 use Rattle.ecf_verdicts.specs.Free.{IsTogether, Free}
 use Rattle.ecf_verdicts.specs.Laws.{FreeExactlyWherePlaced, SingleFree}
 use Rattle.ecf_verdicts.specs.Placing.{waits, next_placed, without, place, placing}
-use Rattle.ecf_verdicts.specs.Traces.{members}
+use Rattle.ecf_verdicts.specs.Traces.{inv_at, members}
 use Rattle.ecf_verdicts.proofs.Conflict.{IsBefore, IsBefore_from, IsBefore_differ}
 use Rattle.ecf_verdicts.proofs.Lists.{Each, Has, In, Each_from_all, Each_at, Has_in, Has_from_in, Has_from_any, any_from_Has}
 use Rattle.ecf_verdicts.proofs.Members.{In_members, IsBefore_members, In_without_from, length-without}
 use Rattle.ecf_verdicts.proofs.Place.{place_none, place_some}
 use Rattle.ecf_verdicts.proofs.Ranks.{rank, rank_here, rank_there, rank_injective}
 use Rattle.ecf_verdicts.proofs.Single.{single_placed}
-use Rattle.ecf_verdicts.proofs.Sorting.{Keeps_from, sort, together_from}
+use Rattle.ecf_verdicts.proofs.Sorting.{inv_read, Keeps_from, sort, together_from}
 use Rattle.ecf_verdicts.proofs.Swapped.{None_Some, Some_same, swaps_alike}
 
 -- what `find` finds
@@ -122,14 +122,15 @@ IsBefore_at (s ∷ later) i j (inl h) = let r = Has_at _ later h.1 in (0, suc r.
 IsBefore_at (s ∷ later) i j (inr h) = let r = IsBefore_at later i j h in (suc r.0, suc r.1, omega (arith, r.2), omega (arith, r.3), r.4, r.5)
 
 together_tail : (s : Step) (later : List Step) → IsTogether (s ∷ later) → IsTogether later
-together_tail s later g = record { between = λ i j k d a b c e. g.between (suc i) (suc j) (suc k) d (omega (arith, a)) (omega (arith, b)) (omega (arith, c)) e }
+together_tail s later g = record { between = λ i j k a b c e. g.between (suc i) (suc j) (suc k) (omega (arith, a)) (omega (arith, b)) (omega (arith, c)) e }
 
 -- after its block an invocation has no step
 no_return : (s : Step) (later : List Step) (i : ℕ) → IsTogether (s ∷ later) → IsBefore later i s.inv → ⊥
 no_return s later i g h =
     let r = IsBefore_at later i s.inv h in
-    let mid = g.between 0 (suc r.0) (suc r.1) s (omega arith) (omega (arith, r.2)) (omega (arith, r.3)) (sym (r.5 s)) in
-    IsBefore_differ later i s.inv h (sym (r.4 s) ∙ mid)
+    let end : s.inv ≡ inv_at later r.1 = sym (r.5 s) ∙ sym (inv_read later r.1 s r.3) in
+    let mid : inv_at later r.0 ≡ s.inv = g.between 0 (suc r.0) (suc r.1) (omega arith) (omega (arith, r.2)) (omega (arith, r.3)) end in
+    IsBefore_differ later i s.inv h (sym (r.4 s) ∙ sym (inv_read later r.0 s (omega (arith, r.2, r.3))) ∙ mid)
 
 -- in a trace that is together, the place of an invocation's first step is such an order
 together_ordered : (t : List Step) → IsTogether t → (i j : ℕ) → IsBefore t i j → rank (map (λ (s : Step). s.inv) t) i < rank (map (λ (s : Step). s.inv) t) j

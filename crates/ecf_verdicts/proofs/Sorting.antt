@@ -6,6 +6,8 @@ use Rattle.ecf_lang.specs.declared.run.Step.{Step}
 use Rattle.ecf_verdicts.specs.Before.{before}
 use Rattle.ecf_verdicts.specs.Conflicts.{conflicts}
 use Rattle.ecf_verdicts.specs.Free.{IsTogether}
+use Rattle.ecf_verdicts.specs.Traces.{inv_at}
+use Rattle.std.proofs.lemmas.List.{get_or-map}
 use Rattle.ecf_verdicts.specs.Swaps.{may_swap, swap_at, swaps}
 use Rattle.ecf_verdicts.proofs.Conflict.{IsBefore, before_from}
 use Rattle.ecf_verdicts.proofs.Lists.{Each, In, Each_from, Each_at, Each_weaker, Has_from_in}
@@ -159,14 +161,23 @@ sorted_at r (x ∷ xs) zero (suc j) d s h k = Each_at (λ u. r x.inv ≤ r u.inv
 sorted_at r (x ∷ xs) (suc i) zero d s h k = absurd (omega arith)
 sorted_at r (x ∷ xs) (suc i) (suc j) d s h k = sorted_at r xs i j d s.1 (omega arith) (omega arith)
 
+-- the invocation at a place is that of the step there
+pub inv_read : (v : List Step) (i : ℕ) (d : Step) → i < length v → inv_at v i ≡ (get_or v i d).inv
+inv_read v i d h = get_or-map (λ (s : Step). s.inv) v i d 0 h
+
+together_at : (r : ℕ → ℕ) (v : List Step) (d : Step) → ((x y : Step) → In x v → In y v → r x.inv ≡ r y.inv → x.inv ≡ y.inv) → Sorted r v →
+    (i j k : ℕ) → i < j → j < k → k < length v → inv_at v i ≡ inv_at v k → inv_at v j ≡ inv_at v i
+together_at r v d apart sorted i j k a b c e =
+    let low = sorted_at r v i j d sorted (omega arith) (omega arith) in
+    let high = sorted_at r v j k d sorted (omega arith) c in
+    let at_i = inv_read v i d (omega arith) in
+    let at_j = inv_read v j d (omega arith) in
+    let same : r (get_or v i d).inv ≡ r (get_or v k d).inv = ap r (sym at_i ∙ e ∙ inv_read v k d c) in
+    at_j ∙ apart (get_or v j d) (get_or v i d) (In_get v j d (omega arith)) (In_get v i d (omega arith)) (omega (arith, low, high, same)) ∙ sym at_i
+
 pub together_from : (r : ℕ → ℕ) (v : List Step) → ((x y : Step) → In x v → In y v → r x.inv ≡ r y.inv → x.inv ≡ y.inv) → Sorted r v → IsTogether v
-together_from r v apart sorted = record {
-  between = λ i j k d a b c e.
-      let low = sorted_at r v i j d sorted (omega arith) (omega arith) in
-      let high = sorted_at r v j k d sorted (omega arith) c in
-      let same : r (get_or v i d).inv ≡ r (get_or v k d).inv = ap r e in
-      apart (get_or v j d) (get_or v i d) (In_get v j d (omega arith)) (In_get v i d (omega arith)) (omega (arith, low, high, same));
-}
+together_from r [] apart sorted = record { between = λ i j k a b c. absurd (omega (arith, c)) }
+together_from r (x ∷ xs) apart sorted = record { between = together_at r (x ∷ xs) x apart sorted }
 
 pub swaps_into_order : SwapsIntoOrder
 swaps_into_order t r keeps =

@@ -31,11 +31,13 @@ SwapsPermute = (t : List Step) (places : List ℕ) (u : List Step) → swaps t p
 
 -- legal swaps keep the order of each invocation's steps
 abbrev pub SwapsKeepInvocations : Type 0
-SwapsKeepInvocations = (t : List Step) (places : List ℕ) (u : List Step) → swaps t places ≡ Some u → (inv : ℕ) → filter (λ s. s.inv == inv) u ≡ filter (λ s. s.inv == inv) t
+SwapsKeepInvocations = (t : List Step) (places : List ℕ) (u : List Step) → swaps t places ≡ Some u → (inv : ℕ) →
+    filter (λ s. s.inv == inv) u ≡ filter (λ s. s.inv == inv) t
 
 -- legal swaps keep the order of the writes of each cell
 abbrev pub SwapsKeepWrites : Type 0
-SwapsKeepWrites = (t : List Step) (places : List ℕ) (u : List Step) → swaps t places ≡ Some u → (c : Cell) → filter (λ s. s.write && same_cell s.cell c) u ≡ filter (λ s. s.write && same_cell s.cell c) t
+SwapsKeepWrites = (t : List Step) (places : List ℕ) (u : List Step) → swaps t places ≡ Some u → (c : Cell) →
+    filter (λ s. s.write && same_cell s.cell c) u ≡ filter (λ s. s.write && same_cell s.cell c) t
 
 -- legal swaps keep which invocation is before which
 abbrev pub SwapsKeepBefore : Type 0
@@ -52,7 +54,8 @@ FirstPartsFree = (t : List Step) → Free t → (n : ℕ) → Free (take n t)
 -- how many pairs of steps a rank of invocations puts the other way round
 unfoldable pub out_of_order : (ℕ → ℕ) → List Step → ℕ
 out_of_order rank [] = 0
-out_of_order rank (s ∷ later) = length (filter (λ u. nat_lt (rank u.inv) (rank s.inv)) later) + out_of_order rank later
+out_of_order rank (s ∷ later) =
+    length (filter (λ u. nat_lt (rank u.inv) (rank s.inv)) later) + out_of_order rank later
 
 -- legal swaps to a trace in which the rank doesn't fall
 pub record SwapsTo (rank : ℕ → ℕ) (t : List Step) (places : List ℕ) (u : List Step) : Type 0 where
@@ -61,11 +64,13 @@ pub record SwapsTo (rank : ℕ → ℕ) (t : List Step) (places : List ℕ) (u :
 
 -- a rank that keeps what is before what is reached by legal swaps, one for each pair of steps out of it
 abbrev pub SwapsIntoOrder : Type 0
-SwapsIntoOrder = (t : List Step) (rank : ℕ → ℕ) → ((i j : ℕ) → before t i j ≡ true → rank i < rank j) → (places : List ℕ) × (u : List Step) × SwapsTo rank t places u × (length places ≡ out_of_order rank t)
+SwapsIntoOrder = (t : List Step) (rank : ℕ → ℕ) → ((i j : ℕ) → before t i j ≡ true → rank i < rank j) →
+    (places : List ℕ) × (u : List Step) × SwapsTo rank t places u × (length places ≡ out_of_order rank t)
 
 -- two places of the trace, the first earlier, whose steps are of i and of j and conflict
 abbrev pub ConflictsInOrder : List Step → ℕ → ℕ → Type 0
-ConflictsInOrder t i j = (p : ℕ) × (q : ℕ) × (p < q) × (q < length t) × ((d : Step) → ((slice_index_or t p d).inv ≡ i) × ((slice_index_or t q d).inv ≡ j) × (conflicts (slice_index_or t p d) (slice_index_or t q d) ≡ true))
+ConflictsInOrder t i j = (p : ℕ) × (q : ℕ) × (p < q) × (q < length t) × (
+    (d : Step) → ((slice_index_or t p d).inv ≡ i) × ((slice_index_or t q d).inv ≡ j) × (conflicts (slice_index_or t p d) (slice_index_or t q d) ≡ true))
 
 -- "before" says exactly that there are such places
 abbrev pub BeforeExactlyWhere : Type 0
@@ -81,7 +86,8 @@ PlacesMembers = (t : List Step) → AllPairs (λ i j. i ≢ j) (placing t).place
 
 -- whatever is before a placed invocation is placed earlier
 abbrev pub PlacedKeepsBefore : Type 0
-PlacedKeepsBefore = (t : List Step) (k i : ℕ) → k < length (placing t).placed → before t i (slice_index (placing t).placed k) ≡ true → (m : ℕ) × (m < k) × (slice_index (placing t).placed m ≡ i)
+PlacedKeepsBefore = (t : List Step) (k i : ℕ) → k < length (placing t).placed → before t i (slice_index (placing t).placed k) ≡ true →
+    (m : ℕ) × (m < k) × (slice_index (placing t).placed m ≡ i)
 
 -- each invocation that has steps is placed or in the rest
 abbrev pub MembersPlacedOrRest : Type 0
@@ -108,7 +114,8 @@ StepIsLeast = (t : List Step) (rest : List ℕ) (j i : ℕ) → IsStrictlyIncrea
 
 -- the walk never ends for want of moves: with more of them it gives the same
 abbrev pub MovesSuffice : Type 0
-MovesSuffice = (t : List Step) (i : ℕ) (is : List ℕ) → (placing t).rest ≡ i ∷ is → (n : ℕ) → length (i ∷ is) ≤ n → walk t (i ∷ is) n i [] ≡ walk t (i ∷ is) (length (i ∷ is)) i []
+MovesSuffice = (t : List Step) (i : ℕ) (is : List ℕ) → (placing t).rest ≡ i ∷ is → (n : ℕ) → length (i ∷ is) ≤ n →
+    walk t (i ∷ is) n i [] ≡ walk t (i ∷ is) (length (i ∷ is)) i []
 
 -- a cycle: several invocations, none twice, the least first, each before the next and the last before the first
 pub record IsCycle (t : List Step) (c : List ℕ) : Type 0 where
@@ -135,11 +142,13 @@ AtIsShortest = (t : List Step) → (Free t → ⊥) → IsShortest t (at t)
 
 -- a veto names the least object whose trace isn't free
 abbrev pub VetoesLeast : Type 0
-VetoesLeast = (steps : List Step) (o n : ℕ) (c : List ℕ) → verdict steps ≡ Vetoed o n c → (Free (trace steps o) → ⊥) × ((p : ℕ) → p < o → Free (trace steps p))
+VetoesLeast = (steps : List Step) (o n : ℕ) (c : List ℕ) → verdict steps ≡ Vetoed o n c →
+    (Free (trace steps o) → ⊥) × ((p : ℕ) → p < o → Free (trace steps p))
 
 -- a veto's cycle is one of that object's trace, and its number of steps that of the shortest part that isn't free
 abbrev pub VetoesExplain : Type 0
-VetoesExplain = (steps : List Step) (o n : ℕ) (c : List ℕ) → verdict steps ≡ Vetoed o n c → IsShortest (trace steps o) n × IsCycle (trace steps o) c
+VetoesExplain = (steps : List Step) (o n : ℕ) (c : List ℕ) → verdict steps ≡ Vetoed o n c →
+    IsShortest (trace steps o) n × IsCycle (trace steps o) c
 
 -- an approval means that the trace of each object is free
 abbrev pub ApprovesFree : Type 0

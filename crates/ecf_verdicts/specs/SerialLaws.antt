@@ -30,7 +30,8 @@ IsVetoed (receipt.Vetoed object at cycle fuel) = ⊤
 -- A transaction is vetoed exactly where its run answers and, for some object, no swaps of neighbouring steps that
 -- don't conflict, of different invocations, bring the steps of each invocation together.
 abbrev pub VetoedWhereNotFree : Type 0
-VetoedWhereNotFree = (typed : Typed) (store : Store) (tx : Tx) → IsVetoed (receipt_on typed store tx) ↔ IsAnswer (run typed store tx).outcome × ((o : ℕ) × (Free (trace (run typed store tx).steps o) → ⊥))
+VetoedWhereNotFree = (typed : Typed) (store : Store) (tx : Tx) →
+    IsVetoed (receipt_on typed store tx) ↔ IsAnswer (run typed store tx).outcome × ((o : ℕ) × (Free (trace (run typed store tx).steps o) → ⊥))
 
 -- the receipt is of a committed transaction
 abbrev pub IsCommitted : Receipt → Type 0
@@ -49,7 +50,8 @@ OnlyCommitChanges = (typed : Typed) (store : Store) (tx : Tx) → (IsCommitted (
 
 -- a transaction is committed exactly where its run answers and the trace of each object is free
 abbrev pub CommittedWhereFree : Type 0
-CommittedWhereFree = (typed : Typed) (store : Store) (tx : Tx) → IsCommitted (receipt_on typed store tx) ↔ IsAnswer (run typed store tx).outcome × ((o : ℕ) → Free (trace (run typed store tx).steps o))
+CommittedWhereFree = (typed : Typed) (store : Store) (tx : Tx) →
+    IsCommitted (receipt_on typed store tx) ↔ IsAnswer (run typed store tx).outcome × ((o : ℕ) → Free (trace (run typed store tx).steps o))
 
 -- a serial run begins at the contract's initial values
 abbrev pub SerialBegins : Type 0

@@ -1,10 +1,14 @@
 -- What a run did to one object, and which invocations did it.
-use Rattle.std.specs.Prelude.{ℕ, ◌==◌, nat_lt, if◌then◌else◌, List, [], ◌∷◌, filter}
+use Rattle.std.specs.Prelude.{ℕ, ◌==◌, nat_lt, if◌then◌else◌, List, [], ◌∷◌, filter, map, slice_index}
 use Rattle.ecf_lang.specs.declared.run.Step.{Step}
 
 -- the steps on cells of an object, in order
 unfoldable pub trace : List Step → ℕ → List Step
 trace steps object = filter (λ s. s.cell.object == object) steps
+
+-- the invocation of the step at a place
+abbrev pub inv_at : List Step → ℕ → ℕ
+inv_at t place = slice_index (map (λ (s : Step). s.inv) t) place
 
 -- a number joins a rising list, once
 unfoldable pub join : ℕ → List ℕ → List ℕ

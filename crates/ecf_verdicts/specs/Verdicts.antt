@@ -15,7 +15,9 @@ pub data Verdict : Type 0 where
 unfoldable pub orders : List Step → List ℕ → List Order
 orders steps [] = []
 orders steps (o ∷ os) =
-    if nat_lt 1 (length (members (trace steps o))) then record { object = o; invs = (placing (trace steps o)).placed } ∷ orders steps os else orders steps os
+    let later = orders steps os in
+    let named : Order = record { object = o; invs = (placing (trace steps o)).placed } in
+    if nat_lt 1 (length (members (trace steps o))) then named ∷ later else later
 
 -- the least object whose trace isn't free; the objects rise
 unfoldable pub vetoed_object : List Step → Option ℕ
