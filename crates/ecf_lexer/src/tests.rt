@@ -1,4 +1,6 @@
 use super::*;
+use std::alloc::Global;
+use std::process::Abort;
 use std::test::Fail;
 
 /// A token's kind and place.
@@ -107,9 +109,13 @@ const TOKENS: [(&str, &[Row]); 23] = [
 
 #[test]
 fn texts_have_these_tokens(rt: HostRuntime) -> Result<(), Fail> {
-    for (source, rows) in &TOKENS {
+    expect_tokens(&rt, rt.alloc(), &TOKENS)
+}
+
+fn expect_tokens(rt: &impl Abort, alloc: Global, table: &[(&str, &[Row])]) -> Result<(), Fail> {
+    for (source, rows) in table {
         assert!(rt; source.len() <= MAX_SOURCE_BYTES);
-        let tokens = lex(rt.alloc(), source.as_bytes())?;
+        let tokens = lex(alloc, source.as_bytes())?;
         assert_eq!(rt; tokens.len(), rows.len(), "{source}");
         for (token, row) in tokens.iter().zip(rows.iter()) {
             assert_eq!(rt; (token.kind, token.start, token.end), *row, "{source}");
@@ -121,125 +127,113 @@ fn texts_have_these_tokens(rt: HostRuntime) -> Result<(), Fail> {
 const WORDS: &str =
     "object num flag addr map method let if else while return revert call self here true false try";
 
-const ALL_WORDS: [Word; 18] = [
-    Word::Object,
-    Word::Num,
-    Word::Flag,
-    Word::Addr,
-    Word::Map,
-    Word::Method,
-    Word::Let,
-    Word::If,
-    Word::Else,
-    Word::While,
-    Word::Return,
-    Word::Revert,
-    Word::Call,
-    Word::SelfWord,
-    Word::Here,
-    Word::True,
-    Word::False,
-    Word::Try,
+const ALL_WORDS: [Kind; 18] = [
+    Kind::Word(Word::Object),
+    Kind::Word(Word::Num),
+    Kind::Word(Word::Flag),
+    Kind::Word(Word::Addr),
+    Kind::Word(Word::Map),
+    Kind::Word(Word::Method),
+    Kind::Word(Word::Let),
+    Kind::Word(Word::If),
+    Kind::Word(Word::Else),
+    Kind::Word(Word::While),
+    Kind::Word(Word::Return),
+    Kind::Word(Word::Revert),
+    Kind::Word(Word::Call),
+    Kind::Word(Word::SelfWord),
+    Kind::Word(Word::Here),
+    Kind::Word(Word::True),
+    Kind::Word(Word::False),
+    Kind::Word(Word::Try),
 ];
-
-#[test]
-fn words_are_reserved(rt: HostRuntime) -> Result<(), Fail> {
-    assert!(rt; WORDS.len() <= MAX_SOURCE_BYTES);
-    let tokens = lex(rt.alloc(), WORDS.as_bytes())?;
-    assert_eq!(rt; tokens.len(), ALL_WORDS.len());
-    for (token, word) in tokens.iter().zip(ALL_WORDS.iter()) {
-        assert_eq!(rt; token.kind, Kind::Word(*word));
-    }
-    Ok(())
-}
 
 const SIGNS: &str = "{ } ( ) [ ] : ; , . = == != < <= > >= + - * / % && || ! ->";
 
-const ALL_SIGNS: [Sign; 26] = [
-    Sign::OpenBrace,
-    Sign::CloseBrace,
-    Sign::OpenParen,
-    Sign::CloseParen,
-    Sign::OpenBracket,
-    Sign::CloseBracket,
-    Sign::Colon,
-    Sign::Semicolon,
-    Sign::Comma,
-    Sign::Dot,
-    Sign::Assign,
-    Sign::Equal,
-    Sign::NotEqual,
-    Sign::Less,
-    Sign::LessEqual,
-    Sign::Greater,
-    Sign::GreaterEqual,
-    Sign::Plus,
-    Sign::Minus,
-    Sign::Star,
-    Sign::Slash,
-    Sign::Percent,
-    Sign::And,
-    Sign::Or,
-    Sign::Not,
-    Sign::Arrow,
+const ALL_SIGNS: [Kind; 26] = [
+    Kind::Sign(Sign::OpenBrace),
+    Kind::Sign(Sign::CloseBrace),
+    Kind::Sign(Sign::OpenParen),
+    Kind::Sign(Sign::CloseParen),
+    Kind::Sign(Sign::OpenBracket),
+    Kind::Sign(Sign::CloseBracket),
+    Kind::Sign(Sign::Colon),
+    Kind::Sign(Sign::Semicolon),
+    Kind::Sign(Sign::Comma),
+    Kind::Sign(Sign::Dot),
+    Kind::Sign(Sign::Assign),
+    Kind::Sign(Sign::Equal),
+    Kind::Sign(Sign::NotEqual),
+    Kind::Sign(Sign::Less),
+    Kind::Sign(Sign::LessEqual),
+    Kind::Sign(Sign::Greater),
+    Kind::Sign(Sign::GreaterEqual),
+    Kind::Sign(Sign::Plus),
+    Kind::Sign(Sign::Minus),
+    Kind::Sign(Sign::Star),
+    Kind::Sign(Sign::Slash),
+    Kind::Sign(Sign::Percent),
+    Kind::Sign(Sign::And),
+    Kind::Sign(Sign::Or),
+    Kind::Sign(Sign::Not),
+    Kind::Sign(Sign::Arrow),
 ];
 
 #[test]
-fn signs_are_read(rt: HostRuntime) -> Result<(), Fail> {
-    assert!(rt; SIGNS.len() <= MAX_SOURCE_BYTES);
-    let tokens = lex(rt.alloc(), SIGNS.as_bytes())?;
-    assert_eq!(rt; tokens.len(), ALL_SIGNS.len());
-    for (token, sign) in tokens.iter().zip(ALL_SIGNS.iter()) {
-        assert_eq!(rt; token.kind, Kind::Sign(*sign));
+fn each_word_and_sign_is_read(rt: HostRuntime) -> Result<(), Fail> {
+    expect_kinds(&rt, rt.alloc(), WORDS, &ALL_WORDS)?;
+    expect_kinds(&rt, rt.alloc(), SIGNS, &ALL_SIGNS)
+}
+
+fn expect_kinds(rt: &impl Abort, alloc: Global, source: &str, kinds: &[Kind]) -> Result<(), Fail> {
+    assert!(rt; source.len() <= MAX_SOURCE_BYTES);
+    let tokens = lex(alloc, source.as_bytes())?;
+    assert_eq!(rt; tokens.len(), kinds.len());
+    for (token, kind) in tokens.iter().zip(kinds.iter()) {
+        assert_eq!(rt; token.kind, *kind);
     }
     Ok(())
 }
 
-const FAULTS: [(&str, LexFault); 15] = [
-    ("object A { num x = $1; }", LexFault::BadByte { at: 19 }),
+/// What stands behind so many semicolons, and the fault.
+type Faulty = (usize, &'static str, Option<LexFault>);
+
+const FAULTS: [Faulty; 23] = [
     (
+        0,
+        "object A { num x = $1; }",
+        Some(LexFault::BadByte { at: 19 }),
+    ),
+    (
+        0,
         "object A { num x = 340282366920938463463374607431768211456; }",
-        LexFault::WideNumber { at: 19 },
+        Some(LexFault::WideNumber { at: 19 }),
     ),
     (
+        0,
         "00340282366920938463463374607431768211456",
-        LexFault::WideNumber { at: 0 },
+        Some(LexFault::WideNumber { at: 0 }),
     ),
     (
+        0,
         "9999999999999999999999999999999999999999",
-        LexFault::WideNumber { at: 0 },
+        Some(LexFault::WideNumber { at: 0 }),
     ),
-    ("&", LexFault::BadByte { at: 0 }),
-    ("&&&", LexFault::BadByte { at: 2 }),
-    ("& &", LexFault::BadByte { at: 0 }),
-    ("a|b", LexFault::BadByte { at: 1 }),
-    ("|||", LexFault::BadByte { at: 2 }),
-    ("// &\n&", LexFault::BadByte { at: 5 }),
-    ("a\u{e9}", LexFault::BadByte { at: 1 }),
-    ("\0", LexFault::BadByte { at: 0 }),
-    (" \u{b}", LexFault::BadByte { at: 1 }),
-    ("\"a\"", LexFault::BadByte { at: 0 }),
+    (0, "&", Some(LexFault::BadByte { at: 0 })),
+    (0, "&&&", Some(LexFault::BadByte { at: 2 })),
+    (0, "& &", Some(LexFault::BadByte { at: 0 })),
+    (0, "a|b", Some(LexFault::BadByte { at: 1 })),
+    (0, "|||", Some(LexFault::BadByte { at: 2 })),
+    (0, "// &\n&", Some(LexFault::BadByte { at: 5 })),
+    (0, "a\u{e9}", Some(LexFault::BadByte { at: 1 })),
+    (0, "\0", Some(LexFault::BadByte { at: 0 })),
+    (0, " \u{b}", Some(LexFault::BadByte { at: 1 })),
+    (0, "\"a\"", Some(LexFault::BadByte { at: 0 })),
     (
+        0,
         "# 340282366920938463463374607431768211456",
-        LexFault::BadByte { at: 0 },
+        Some(LexFault::BadByte { at: 0 }),
     ),
-];
-
-#[test]
-fn the_first_fault_is_answered(rt: HostRuntime) -> Result<(), Fail> {
-    for (source, fault) in &FAULTS {
-        assert!(rt; source.len() <= MAX_SOURCE_BYTES);
-        assert_eq!(rt;
-            lex(rt.alloc(), source.as_bytes()).err(),
-            Some(*fault),
-            "{source}"
-        );
-    }
-    Ok(())
-}
-
-// What stands behind so many semicolons, and the fault.
-const BEHIND_MANY: [(usize, &str, Option<LexFault>); 8] = [
     (200_000, "", None),
     (200_000, " // ;\n", None),
     (200_000, " ;", Some(LexFault::TooManyTokens { at: 200_001 })),
@@ -263,16 +257,16 @@ const BEHIND_MANY: [(usize, &str, Option<LexFault>); 8] = [
 ];
 
 #[test]
-fn tokens_are_counted(rt: HostRuntime) -> Result<(), Fail> {
-    for (count, tail, fault) in &BEHIND_MANY {
-        let mut source = vec![in rt.alloc(); b';'; *count]?;
+fn the_first_fault_is_answered(rt: HostRuntime) -> Result<(), Fail> {
+    expect_faults(&rt, rt.alloc(), &FAULTS)
+}
+
+fn expect_faults(rt: &impl Abort, alloc: Global, table: &[Faulty]) -> Result<(), Fail> {
+    for (count, tail, fault) in table {
+        let mut source = vec![in alloc; b';'; *count]?;
         source.extend_from_slice(tail.as_bytes())?;
         assert!(rt; source.len() <= MAX_SOURCE_BYTES);
-        assert_eq!(rt;
-            lex(rt.alloc(), &source).err(),
-            *fault,
-            "{count} and {tail}"
-        );
+        assert_eq!(rt; lex(alloc, &source).err(), *fault, "{count} and {tail}");
     }
     Ok(())
 }
