@@ -286,3 +286,7 @@ nothing_front (a ∷ rest) comment blank name digit pair single (Lexeme k bytes)
           let one : length bytes ≡ 1 = omega (arith, no_pair_short (a ∷ rest) bytes behind sign.0 pair h.whole sign.1, piece_len (Lexeme k bytes) h.spelled) in
           single sign.0 (begun_by (a ∷ rest) bytes behind sign.0 1 h.whole sign.1 one)
     ]
+
+pub take_one : (text : List ℕ) (a : ℕ) → Some a ≡ slice_get text 0 → take 1 text ≡ a ∷ []
+take_one [] a h = absurd cc
+take_one (b ∷ rest) a h = let same : b ≡ a = cc in ap (λ x. x ∷ []) same

@@ -41,6 +41,7 @@ pub fn read_front(text: &[u8]) -> Option<Front>
     }
 }
 
+// The comment that begins the text.
 fn comment(text: &[u8]) -> Front
     requires { starts_with nat_eq text.now (codes "//") ≡ true }
     ensures { IsFrontOf text.now result }
@@ -50,6 +51,7 @@ fn comment(text: &[u8]) -> Front
     }
 }
 
+// The word or name that begins the text.
 fn name(text: &[u8]) -> Front
     requires { IsTrue (is_name_start (slice_index text.now 0)) }
     ensures { IsFrontOf text.now result }
@@ -62,6 +64,7 @@ fn name(text: &[u8]) -> Front
     Front::Token { kind, len }
 }
 
+// The number that begins the text.
 fn number(text: &[u8]) -> Front
     requires { IsTrue (is_ascii_digit (slice_index text.now 0)) }
     ensures { IsFrontOf text.now result }
@@ -76,6 +79,7 @@ fn number(text: &[u8]) -> Front
     }
 }
 
+// The sign that begins the text, where nothing else may.
 fn sign(text: &[u8]) -> Option<Front>
     requires no_comment { starts_with nat_eq text.now (codes "//") ≡ false }
     requires no_blank { is_blank (slice_index text.now 0) ≡ false }
@@ -98,6 +102,7 @@ fn sign(text: &[u8]) -> Option<Front>
     }
 }
 
+// The sign that the first two bytes spell.
 fn two_byte_front(text: &[u8]) -> Option<Sign>
     ensures { MatchOption result ((s : Sign) → 2 ≤ length text.now → sign_text s ≢ take 2 text.now) (λ s. (2 ≤ length text.now) × (sign_text s ≡ take 2 text.now)) }
 {

@@ -36,6 +36,7 @@ pub enum LexFault {
 }
 
 /// The tokens of a contract file, read by longest match, each with its place.
+/// It looks at each byte a few times at most, and takes memory for the tokens alone.
 pub fn lex(alloc: Global, source: &[u8]) -> Result<Vec<Token>, LexFault>
     requires { length source.now ≤ MAX_SOURCE_BYTES }
 
@@ -97,6 +98,7 @@ fn read_piece(source: &[u8], at: usize, tokens: &mut Vec<Token>) -> Result<usize
     }
 }
 
+// Puts a token at the end.
 fn push(tokens: &mut Vec<Token>, token: Token) -> Result<(), LexFault>
     ensures ok { OnOk result (tokens.new.items ≡ tokens.old.items ++ token ∷ []) }
     ensures err { IfErr result (λ e. e ≡ NoMemory) }

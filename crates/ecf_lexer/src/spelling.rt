@@ -10,18 +10,21 @@ ghost use Rattle.ecf_grammar.specs.Spelling.{word_text, sign_text, is_name_start
 
 use ecf_grammar::{Sign, Word};
 
+/// A space, tab, CR or LF.
 pub fn is_blank(byte: u8) -> bool
     ensures { result ≡ is_blank byte }
 {
     matches!(byte, b' ' | b'\t' | b'\r' | b'\n')
 }
 
+/// A letter or an underscore.
 pub fn is_name_start(byte: u8) -> bool
     ensures { result ≡ is_name_start byte }
 {
     byte.is_ascii_alphabetic() || byte == b'_'
 }
 
+/// A letter, a digit or an underscore.
 pub fn is_name_byte(byte: u8) -> bool
     ensures { result ≡ is_name_byte byte }
 {
@@ -55,6 +58,7 @@ pub fn reserved_word(name: &[u8]) -> Option<Word>
     }
 }
 
+/// The sign that two bytes spell.
 pub fn two_byte_sign(first: u8, second: u8) -> Option<Sign>
     ensures { MatchOption result ((s : Sign) → sign_text s ≢ first ∷ second ∷ []) (λ s. sign_text s ≡ first ∷ second ∷ []) }
 {
@@ -70,6 +74,7 @@ pub fn two_byte_sign(first: u8, second: u8) -> Option<Sign>
     }
 }
 
+/// The sign that a byte spells.
 pub fn one_byte_sign(byte: u8) -> Option<Sign>
     ensures { MatchOption result ((s : Sign) → sign_text s ≢ byte ∷ []) (λ s. sign_text s ≡ byte ∷ []) }
 {
