@@ -1,1 +1,4 @@
+pub mod Evaluation
+pub mod Computed
+pub mod BankProof
 pub mod CounterProof
