@@ -1,4 +1,14 @@
 pub mod Evaluation
 pub mod Computed
+pub mod ArithmeticProof
 pub mod BankProof
+pub mod CallbackProof
+pub mod CallingProof
+pub mod ChargingProof
 pub mod CounterProof
+pub mod DepthProof
+pub mod LogicProof
+pub mod LoopProof
+pub mod OrderProof
+pub mod RevertingProof
+pub mod TryingProof

@@ -6,9 +6,9 @@ use Rattle.ecf_lang.specs.declared.tree.Ty.TheVariants.{Num, Addr}
 use Rattle.ecf_lang.specs.declared.run.Outcome.TheVariants.{Answer}
 use Rattle.ecf_lang.specs.declared.typed.Typed.{Typed}
 use Rattle.ecf_lang.specs.declared.tx.Tx.{Tx}
-use Rattle.ecf_lang.specs.Store.{Store}
+use Rattle.ecf_lang.specs.Genesis.{genesis}
 use Rattle.ecf_lang.specs.Meaning.{run, Ran}
-use Rattle.ecf_cases.specs.Words.{contract, takes, object, num_field, map_field, method, num, here, local, field, named, at, plus, minus, compare, let_num, set_field, set_at, when, returns, call_only, transaction, calling, cell, reads, writes, invoked}
+use Rattle.ecf_cases.specs.Words.{contract, takes, object, num_field, map_field, starting, method, num, here, local, field, named, at, plus, minus, compare, let_num, set_field, set_at, when, returns, call_only, transaction, calling, cell, reads, writes, invoked}
 
 -- object Bank {
 --   map owed: addr -> num = { Thief: 5 };
@@ -35,7 +35,7 @@ use Rattle.ecf_cases.specs.Words.{contract, takes, object, num_field, map_field,
 -- }
 abbrev pub pays_first : Typed
 pays_first = contract (takes (Addr ∷ []) Num ∷ takes (Num ∷ []) Num ∷ []) (
-  object (map_field Addr Num ∷ num_field ∷ []) (
+  object (starting ((1, 5) ∷ []) (map_field Addr Num) ∷ starting ((0, 20) ∷ []) num_field ∷ []) (
     method 0 2 (
       let_num 1 (at 0 (local 0))
       ∷ set_field 1 (minus (field 1) (local 1))
@@ -91,7 +91,7 @@ tries = cell 1 1 0
 -- }
 abbrev pub clears_first : Typed
 clears_first = contract (takes (Addr ∷ []) Num ∷ takes (Num ∷ []) Num ∷ []) (
-  object (map_field Addr Num ∷ num_field ∷ []) (
+  object (starting ((1, 5) ∷ []) (map_field Addr Num) ∷ starting ((0, 20) ∷ []) num_field ∷ []) (
     method 0 2 (
       let_num 1 (at 0 (local 0))
       ∷ set_at 0 (local 0) (num 0)
@@ -105,10 +105,6 @@ clears_first = contract (takes (Addr ∷ []) Num ∷ takes (Num ∷ []) Num ∷ 
           set_field 1 (plus (field 1) (num 1))
           ∷ call_only (named 0) 0 (here ∷ []) ∷ [])
       ∷ returns (num 0) ∷ []) ∷ []) ∷ [])
-
--- the store of the initial values
-abbrev pub begins : Store
-begins = (owed 1, 5) ∷ (cash, 20) ∷ []
 
 -- Bank withdraw 1000 Thief
 abbrev pub withdraw : Tx
@@ -135,7 +131,7 @@ paid_twice = record {
 }
 
 abbrev pub PaysFirst : Type 0
-PaysFirst = run pays_first begins withdraw ≡ paid_twice
+PaysFirst = run pays_first (genesis pays_first) withdraw ≡ paid_twice
 
 -- where the bank clears first, the thief is paid once
 abbrev pub paid_once : Ran
@@ -156,4 +152,4 @@ paid_once = record {
 }
 
 abbrev pub ClearsFirst : Type 0
-ClearsFirst = run clears_first begins withdraw ≡ paid_once
+ClearsFirst = run clears_first (genesis clears_first) withdraw ≡ paid_once

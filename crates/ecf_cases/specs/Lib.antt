@@ -1,3 +1,13 @@
 pub mod Words
+pub mod Arithmetic
 pub mod Bank
+pub mod Callback
+pub mod Calling
+pub mod Charging
 pub mod Counter
+pub mod Depth
+pub mod Logic
+pub mod Loop
+pub mod Order
+pub mod Reverting
+pub mod Trying

@@ -1,16 +1,132 @@
 //! Worked cases of the meaning, proved by computation: each clause is one case, a whole run with all that it leaves.
 #![tactic(auto)]
 
+ghost use Rattle.ecf_cases.specs.Arithmetic.{Chains, Groups, Multiplies, Mixes};
 ghost use Rattle.ecf_cases.specs.Bank.{PaysFirst, ClearsFirst};
-ghost use Rattle.ecf_cases.specs.Counter.{Counts};
+ghost use Rattle.ecf_cases.specs.Callback.{ComesFirst, CycleOfThree, Apart, RevertsAtLast, WritesTheSame};
+ghost use Rattle.ecf_cases.specs.Calling.{StaysInside, CallsItself, CallsAnother, AnswersInOrder};
+ghost use Rattle.ecf_cases.specs.Charging.{UnpaidMapRead, UnpaidMapWrite, UnpaidSum, UnpaidCallTest, UnpaidCallee, UnpaidTryTest, UnpaidInternalTest, UnpaidRevert, PaidTest};
+ghost use Rattle.ecf_cases.specs.Counter.{Counts, UsesAllFuel, WantsFuelForRead, WantsFuelForWrite, CountsTwice, UndoesBoth};
+ghost use Rattle.ecf_cases.specs.Depth.{TooDeep, NotPaid};
+ghost use Rattle.ecf_cases.specs.Logic.{BothRead, RightSkipped, OtherRead, OtherSkipped, AllThree, NoneOfThree, FirstArm, SecondArm, LastBlock, EndsSilently, NoElse, OddBoth, OddEither, OddNot};
+ghost use Rattle.ecf_cases.specs.Loop.{SumsSquares, NoTurn, ReturnsFromLoop, Spins};
+ghost use Rattle.ecf_cases.specs.Order.{IndexFirst, LeftFirst, LeftSideFirst, TargetFirst};
+ghost use Rattle.ecf_cases.specs.Reverting.{SumOverflows, DifferenceOverflows, ProductOverflows, DividesByZero, RemainderByZero, WantsMethod, RevertsItself};
+ghost use Rattle.ecf_cases.specs.Trying.{Caught, NotCaught, CaughtWithCallback, CaughtMissing, Answers, ReadsStay, InnermostCatches, ArgumentNotCaught};
 
-/// A counter: `object Counter { num n; method bump(): num { n = n + 1; return n; } }`, bumped once.
+/// A counter that counts: with ample fuel, with just enough, with too little, and twice in one transaction.
 pub fn counter()
-    ensures { Counts }
+    ensures counts { Counts }
+    ensures uses_all_fuel { UsesAllFuel }
+    ensures wants_fuel_for_read { WantsFuelForRead }
+    ensures wants_fuel_for_write { WantsFuelForWrite }
+    ensures counts_twice { CountsTwice }
+    ensures undoes_both { UndoesBoth }
 {}
 
 /// A bank that pays before it clears, and one that clears first.
 pub fn bank()
     ensures pays_before_it_clears { PaysFirst }
     ensures clears_before_it_pays { ClearsFirst }
+{}
+
+/// Calls that come back to their caller while it waits.
+pub fn callback()
+    ensures comes_first { ComesFirst }
+    ensures cycle_of_three { CycleOfThree }
+    ensures apart { Apart }
+    ensures reverts_at_last { RevertsAtLast }
+    ensures writes_the_same { WritesTheSame }
+{}
+
+/// Calls of the own object, internal and external, and of another one.
+pub fn calling()
+    ensures stays_inside { StaysInside }
+    ensures calls_itself { CallsItself }
+    ensures calls_another { CallsAnother }
+    ensures answers_in_order { AnswersInOrder }
+{}
+
+/// What is evaluated first, as the steps tell.
+pub fn order()
+    ensures index_before_value { IndexFirst }
+    ensures left_before_right { LeftFirst }
+    ensures left_side_before_right_side { LeftSideFirst }
+    ensures target_before_arguments { TargetFirst }
+{}
+
+/// Fuel that ends between a charge and its effect.
+pub fn charging()
+    ensures before_map_read { UnpaidMapRead }
+    ensures before_map_write { UnpaidMapWrite }
+    ensures before_operator { UnpaidSum }
+    ensures before_tests { UnpaidCallTest }
+    ensures before_callee { UnpaidCallee }
+    ensures before_tests_of_try { UnpaidTryTest }
+    ensures before_internal_test { UnpaidInternalTest }
+    ensures before_revert { UnpaidRevert }
+    ensures tests_once_paid { PaidTest }
+{}
+
+/// Runs that revert, each for its cause.
+pub fn reverting()
+    ensures sum_overflows { SumOverflows }
+    ensures difference_overflows { DifferenceOverflows }
+    ensures product_overflows { ProductOverflows }
+    ensures divides_by_zero { DividesByZero }
+    ensures remainder_by_zero { RemainderByZero }
+    ensures wants_method { WantsMethod }
+    ensures reverts_itself { RevertsItself }
+{}
+
+/// A method that calls itself until no frame may be opened.
+pub fn depth()
+    ensures too_deep { TooDeep }
+    ensures not_paid { NotPaid }
+{}
+
+/// Calls whose revert is caught.
+pub fn trying()
+    ensures catches_revert { Caught }
+    ensures lets_want_of_fuel_through { NotCaught }
+    ensures undoes_callback { CaughtWithCallback }
+    ensures catches_missing_method { CaughtMissing }
+    ensures keeps_an_answer { Answers }
+    ensures keeps_reads { ReadsStay }
+    ensures innermost_catches { InnermostCatches }
+    ensures arguments_are_outside { ArgumentNotCaught }
+{}
+
+/// Loops: none, one and several turns, a return from inside, and one without end.
+pub fn looping()
+    ensures sums_squares { SumsSquares }
+    ensures no_turn { NoTurn }
+    ensures returns_from_loop { ReturnsFromLoop }
+    ensures spins { Spins }
+{}
+
+/// Comparisons, `!`, `&&`, `||`, `if`, and the end of a method.
+pub fn logic()
+    ensures evaluates_both { BothRead }
+    ensures skips_after_false { RightSkipped }
+    ensures evaluates_other { OtherRead }
+    ensures skips_after_true { OtherSkipped }
+    ensures negates { AllThree }
+    ensures skips_two { NoneOfThree }
+    ensures takes_first_arm { FirstArm }
+    ensures takes_second_arm { SecondArm }
+    ensures takes_else { LastBlock }
+    ensures answers_0_at_its_end { EndsSilently }
+    ensures returns_before_its_end { NoElse }
+    ensures and_gives_the_last_value { OddBoth }
+    ensures or_gives_the_last_value { OddEither }
+    ensures not_of_an_odd_flag { OddNot }
+{}
+
+/// Sums and products, from left to right.
+pub fn arithmetic()
+    ensures goes_left_to_right { Chains }
+    ensures keeps_brackets { Groups }
+    ensures multiplies_in_order { Multiplies }
+    ensures multiplies_first { Mixes }
 {}
