@@ -1,6 +1,6 @@
 -- A whole run computed by the kernel, from a value that shows how the contract's bodies are built.
-use Rattle.std.proofs.Common.{◌≡◌, ℕ, zero, suc, Bool, true, false, List, [], ◌∷◌, map, Option, Some, None, refl, ap, sym, ◌∙◌}
-use Rattle.std.specs.Prelude.{◌==◌, if◌then◌else◌, nat_lt, length, find, slice_get}
+use Rattle.std.proofs.Common.{◌≡◌, ℕ, zero, suc, true, false, List, [], ◌∷◌, Option, Some, None, refl, ap, ◌∙◌}
+use Rattle.std.specs.Prelude.{◌==◌, if◌then◌else◌, nat_lt, length, find}
 use Rattle.ecf_lang.specs.declared.run.Invocation.{Invocation}
 use Rattle.ecf_lang.specs.declared.run.Cause.TheVariants.{NoMethod, Depth, Calls}
 use Rattle.ecf_lang.specs.declared.typed.Typed.{Typed}
@@ -10,9 +10,9 @@ use Rattle.ecf_lang.specs.declared.tx.Tx.{Tx}
 use Rattle.ecf_lang.specs.declared.tx.TxCall.{TxCall}
 use Rattle.ecf_lang.specs.Store.{Store}
 use Rattle.ecf_lang.specs.Fits.{method_at}
-use Rattle.ecf_lang.specs.Running.{State, Running, ◌>>=◌, ◌>>◌, pure, revert, note, answering, begin}
-use Rattle.ecf_lang.specs.Meaning.{Frame, Doing, block_of, answered, locals_of, body_of, Ways, frame_of, invoke, tested, deeper, ways, calls_of, fresh, Ran, ran, run}
-use Rattle.ecf_lang.specs.Alone.{Lone, lone_of, lone_frame, inside, by_itself, alone}
+use Rattle.ecf_lang.specs.Running.{Running, ◌>>=◌, ◌>>◌, pure, revert, note, answering, begin}
+use Rattle.ecf_lang.specs.Meaning.{Frame, Doing, block_of, answered, locals_of, body_of, Ways, frame_of, invoke, deeper, ways, calls_of, fresh, Ran, ran, run}
+use Rattle.ecf_lang.specs.Alone.{Lone, lone_of, lone_frame, inside, alone}
 use Rattle.ecf_cases.proofs.Evaluation.{Block, block_does, block_does_is, forms}
 
 -- methods, and how their bodies are built
@@ -47,8 +47,8 @@ found_pairs : {ms : List TypedMethod} (x : Methods ms) (name : ℕ) → Pairs (f
 found_pairs no_method name = neither
 found_pairs (methods {m} {ms} b x) name =
     elim (m.name == name) as (λ t. Pairs (if t then Some m else find (λ m. m.name == name) ms) (if t then Some (m, λ store frame. block_does store frame b) else found x name)) [
-      true ↦ both m (λ store frame. block_does store frame b) (λ store frame. block_does_is store frame b)
-    | false ↦ found_pairs x name
+      | true ↦ both m (λ store frame. block_does store frame b) (λ store frame. block_does_is store frame b)
+      | false ↦ found_pairs x name
     ]
 
 abbrev method_in : List TypedObject → ℕ → ℕ → Option TypedMethod
@@ -116,6 +116,31 @@ module _ (typed : Typed) (x : Objects typed.objects) (store : Store) where
   pub run_is : (tx : Tx) → run typed store tx ≡ run_does tx
   unfolding run
   run_is tx = λ i. ran store tx.fuel ((calls_are tx.calls ∙ ap (λ w. calls_do w tx.calls) (ways_are 64)) i (fresh tx.fuel))
+
+module _ (typed : Typed) (x : Objects typed.objects) (fields : Store) (invocation : Invocation) where
+  abbrev inside_does : ℕ → ℕ → List ℕ → Running ℕ
+  inside_does zero name args = revert Depth
+  inside_does (suc room) name args =
+      body_does fields (lone_frame typed fields invocation (inside_does room)) (located x invocation.object name) args
+
+  inside_is : (room : ℕ) → inside typed fields invocation room ≡ inside_does room
+  unfolding inside
+  inside_is zero = refl
+  inside_is (suc room) =
+      (λ i name args. body_is fields (lone_frame typed fields invocation (inside typed fields invocation room)) args (located_pairs x invocation.object name) i)
+      ∙ (λ i name args. body_does fields (lone_frame typed fields invocation (inside_is room i)) (located x invocation.object name) args)
+
+  abbrev alone_does : ℕ → Lone
+  alone_does inv =
+      lone_of inv (ran fields invocation.own_fuel (
+      (begin invocation.object invocation.method invocation.args >>= (λ n. inside_does 64 invocation.method invocation.args)) (fresh invocation.own_fuel)))
+
+  -- a run of an invocation alone is what its forms do
+  pub alone_is : (inv : ℕ) → alone typed inv invocation fields ≡ alone_does inv
+  unfolding alone
+  alone_is inv =
+      λ i. lone_of inv (ran fields invocation.own_fuel (
+      (begin invocation.object invocation.method invocation.args >>= (λ n. inside_is 64 i invocation.method invocation.args)) (fresh invocation.own_fuel)))
 
 -- all the ways in which a contract is built, for `search`
 pub ruleset contracts = (forms, no_method, methods, no_object, objects)

@@ -12,10 +12,10 @@ use Rattle.ecf_lang.specs.declared.typed.TypedCall.{TypedCall, TypedCall-F, roll
 use Rattle.ecf_lang.specs.declared.typed.TypedCall.TheVariants as call
 use Rattle.ecf_lang.specs.declared.typed.TypedStmt.{TypedStmt, TypedStmt-F, roll-TypedStmt, fold-roll-TypedStmt, map-TypedStmt}
 use Rattle.ecf_lang.specs.declared.typed.TypedStmt.TheVariants as stmt
-use Rattle.ecf_lang.specs.declared.typed.TypedBlock.{TypedBlock, out-TypedBlock, roll-TypedBlock, fold-roll-TypedBlock}
+use Rattle.ecf_lang.specs.declared.typed.TypedBlock.{TypedBlock, roll-TypedBlock, fold-roll-TypedBlock}
 use Rattle.ecf_lang.specs.Store.{Store}
-use Rattle.ecf_lang.specs.Running.{State, Running, Halts, RunsOut, after, ◌>>=◌, ◌>>◌, pure, revert, write_cell}
-use Rattle.ecf_lang.specs.Meaning.{Frame, Flow, On, Back, Doing, on, value_of, answer_of, expr_step, call_step, stmt_of, block_of, stmt_step, block_step, charge, own, each, at_zero, in_turn, chosen, turns, assign}
+use Rattle.ecf_lang.specs.Running.{Running, Halts, RunsOut, after, ◌>>=◌, ◌>>◌, pure, revert, write_cell}
+use Rattle.ecf_lang.specs.Meaning.{Frame, On, Back, Doing, on, value_of, answer_of, expr_step, call_step, stmt_of, block_of, stmt_step, block_step, charge, own, each, at_zero, in_turn, chosen, turns, assign}
 
 mutual
   -- an expression, and how it is built

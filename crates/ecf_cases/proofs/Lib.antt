@@ -7,7 +7,9 @@ pub mod CallingProof
 pub mod ChargingProof
 pub mod CounterProof
 pub mod DepthProof
+pub mod LimitsProof
 pub mod LogicProof
+pub mod LonelyProof
 pub mod LoopProof
 pub mod OrderProof
 pub mod RevertingProof

@@ -8,7 +8,7 @@ use Rattle.ecf_lang.specs.declared.typed.Typed.{Typed}
 use Rattle.ecf_lang.specs.declared.tx.Tx.{Tx}
 use Rattle.ecf_lang.specs.Genesis.{genesis}
 use Rattle.ecf_lang.specs.Meaning.{run, Ran}
-use Rattle.ecf_cases.specs.Words.{contract, takes, object, num_field, starting, method, num, local, field, sum, product, plus, minus, times, returns, transaction, calling, cell, reads, writes, invoked}
+use Rattle.ecf_cases.specs.Words.{contract, takes, object, num_field, starting, method, num, local, field, sum, product, plus, minus, times, returns, transaction, calling, cell, reads, invoked}
 
 -- object N {
 --   num x = 7;
@@ -19,15 +19,15 @@ use Rattle.ecf_cases.specs.Words.{contract, takes, object, num_field, starting, 
 -- }
 abbrev pub sums : Typed
 sums = contract (takes (Num ∷ []) Num ∷ takes (Num ∷ []) Num ∷ takes (Num ∷ []) Num ∷ takes (Num ∷ []) Num ∷ []) (
-  object (starting ((0, 7) ∷ []) num_field ∷ []) (
+    object (starting ((0, 7) ∷ []) num_field ∷ []) (
     method 0 1 (
-      returns (sum (local 0) ((Add, field 0) ∷ (Sub, num 2) ∷ (Sub, num 3) ∷ [])) ∷ [])
+    returns (sum (local 0) ((Add, field 0) ∷ (Sub, num 2) ∷ (Sub, num 3) ∷ [])) ∷ [])
     ∷ method 1 1 (
-      returns (minus (local 0) (sum (field 0) ((Sub, num 2) ∷ (Add, num 3) ∷ []))) ∷ [])
+    returns (minus (local 0) (sum (field 0) ((Sub, num 2) ∷ (Add, num 3) ∷ []))) ∷ [])
     ∷ method 2 1 (
-      returns (product (local 0) ((Mul, field 0) ∷ (Div, num 4) ∷ (Rem, num 5) ∷ [])) ∷ [])
+    returns (product (local 0) ((Mul, field 0) ∷ (Div, num 4) ∷ (Rem, num 5) ∷ [])) ∷ [])
     ∷ method 3 1 (
-      returns (plus (local 0) (times (field 0) (num 2))) ∷ []) ∷ []) ∷ [])
+    returns (plus (local 0) (times (field 0) (num 2))) ∷ []) ∷ []) ∷ [])
 
 -- x of N
 abbrev pub x : Cell

@@ -35,20 +35,20 @@ use Rattle.ecf_cases.specs.Words.{contract, takes, object, num_field, map_field,
 -- }
 abbrev pub pays_first : Typed
 pays_first = contract (takes (Addr ∷ []) Num ∷ takes (Num ∷ []) Num ∷ []) (
-  object (starting ((1, 5) ∷ []) (map_field Addr Num) ∷ starting ((0, 20) ∷ []) num_field ∷ []) (
+    object (starting ((1, 5) ∷ []) (map_field Addr Num) ∷ starting ((0, 20) ∷ []) num_field ∷ []) (
     method 0 2 (
-      let_num 1 (at 0 (local 0))
-      ∷ set_field 1 (minus (field 1) (local 1))
-      ∷ call_only (local 0) 1 (local 1 ∷ [])
-      ∷ set_at 0 (local 0) (num 0)
-      ∷ returns (local 1) ∷ []) ∷ [])
-  ∷ object (num_field ∷ num_field ∷ []) (
+    let_num 1 (at 0 (local 0))
+    ∷ set_field 1 (minus (field 1) (local 1))
+    ∷ call_only (local 0) 1 (local 1 ∷ [])
+    ∷ set_at 0 (local 0) (num 0)
+    ∷ returns (local 1) ∷ []) ∷ [])
+    ∷ object (num_field ∷ num_field ∷ []) (
     method 1 1 (
-      set_field 0 (plus (field 0) (local 0))
-      ∷ when (compare (field 1) Lt (num 1)) (
-          set_field 1 (plus (field 1) (num 1))
-          ∷ call_only (named 0) 0 (here ∷ []) ∷ [])
-      ∷ returns (num 0) ∷ []) ∷ []) ∷ [])
+    set_field 0 (plus (field 0) (local 0))
+    ∷ when (compare (field 1) Lt (num 1)) (
+    set_field 1 (plus (field 1) (num 1))
+    ∷ call_only (named 0) 0 (here ∷ []) ∷ [])
+    ∷ returns (num 0) ∷ []) ∷ []) ∷ [])
 
 -- owed of Bank, by its key
 abbrev pub owed : ℕ → Cell
@@ -91,20 +91,20 @@ tries = cell 1 1 0
 -- }
 abbrev pub clears_first : Typed
 clears_first = contract (takes (Addr ∷ []) Num ∷ takes (Num ∷ []) Num ∷ []) (
-  object (starting ((1, 5) ∷ []) (map_field Addr Num) ∷ starting ((0, 20) ∷ []) num_field ∷ []) (
+    object (starting ((1, 5) ∷ []) (map_field Addr Num) ∷ starting ((0, 20) ∷ []) num_field ∷ []) (
     method 0 2 (
-      let_num 1 (at 0 (local 0))
-      ∷ set_at 0 (local 0) (num 0)
-      ∷ set_field 1 (minus (field 1) (local 1))
-      ∷ call_only (local 0) 1 (local 1 ∷ [])
-      ∷ returns (local 1) ∷ []) ∷ [])
-  ∷ object (num_field ∷ num_field ∷ []) (
+    let_num 1 (at 0 (local 0))
+    ∷ set_at 0 (local 0) (num 0)
+    ∷ set_field 1 (minus (field 1) (local 1))
+    ∷ call_only (local 0) 1 (local 1 ∷ [])
+    ∷ returns (local 1) ∷ []) ∷ [])
+    ∷ object (num_field ∷ num_field ∷ []) (
     method 1 1 (
-      set_field 0 (plus (field 0) (local 0))
-      ∷ when (compare (field 1) Lt (num 1)) (
-          set_field 1 (plus (field 1) (num 1))
-          ∷ call_only (named 0) 0 (here ∷ []) ∷ [])
-      ∷ returns (num 0) ∷ []) ∷ []) ∷ [])
+    set_field 0 (plus (field 0) (local 0))
+    ∷ when (compare (field 1) Lt (num 1)) (
+    set_field 1 (plus (field 1) (num 1))
+    ∷ call_only (named 0) 0 (here ∷ []) ∷ [])
+    ∷ returns (num 0) ∷ []) ∷ []) ∷ [])
 
 -- Bank withdraw 1000 Thief
 abbrev pub withdraw : Tx

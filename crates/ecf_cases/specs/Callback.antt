@@ -19,18 +19,18 @@ use Rattle.ecf_cases.specs.Words.{contract, takes, object, num_field, method, nu
 -- }
 abbrev pub waits : Typed
 waits = contract (takes [] Num ∷ takes [] Num ∷ takes [] Num ∷ []) (
-  object (num_field ∷ []) (
+    object (num_field ∷ []) (
     method 0 0 (
-      call_only (named 1) 2 []
-      ∷ set_field 0 (plus (field 0) (num 1))
-      ∷ returns (field 0) ∷ [])
+    call_only (named 1) 2 []
+    ∷ set_field 0 (plus (field 0) (num 1))
+    ∷ returns (field 0) ∷ [])
     ∷ method 1 0 (
-      set_field 0 (num 10)
-      ∷ returns (num 0) ∷ []) ∷ [])
-  ∷ object [] (
+    set_field 0 (num 10)
+    ∷ returns (num 0) ∷ []) ∷ [])
+    ∷ object [] (
     method 2 0 (
-      call_only (named 0) 1 []
-      ∷ returns (num 0) ∷ []) ∷ []) ∷ [])
+    call_only (named 0) 1 []
+    ∷ returns (num 0) ∷ []) ∷ []) ∷ [])
 
 -- x of A
 abbrev pub x : Cell
@@ -72,25 +72,25 @@ ComesFirst = run waits [] go ≡ came_first
 -- }
 abbrev pub cycles : Typed
 cycles = contract (takes [] Num ∷ takes [] Num ∷ takes [] Num ∷ takes [] Num ∷ takes [] Num ∷ []) (
-  object (num_field ∷ num_field ∷ num_field ∷ []) (
+    object (num_field ∷ num_field ∷ num_field ∷ []) (
     method 0 0 (
-      set_field 0 (num 1)
-      ∷ call_only (named 1) 3 []
-      ∷ call_only (named 1) 4 []
-      ∷ returns (field 2) ∷ [])
+    set_field 0 (num 1)
+    ∷ call_only (named 1) 3 []
+    ∷ call_only (named 1) 4 []
+    ∷ returns (field 2) ∷ [])
     ∷ method 1 0 (
-      set_field 1 (field 0)
-      ∷ returns (num 0) ∷ [])
+    set_field 1 (field 0)
+    ∷ returns (num 0) ∷ [])
     ∷ method 2 0 (
-      set_field 2 (field 1)
-      ∷ returns (num 0) ∷ []) ∷ [])
-  ∷ object [] (
+    set_field 2 (field 1)
+    ∷ returns (num 0) ∷ []) ∷ [])
+    ∷ object [] (
     method 3 0 (
-      call_only (named 0) 1 []
-      ∷ returns (num 0) ∷ [])
+    call_only (named 0) 1 []
+    ∷ returns (num 0) ∷ [])
     ∷ method 4 0 (
-      call_only (named 0) 2 []
-      ∷ returns (num 0) ∷ []) ∷ []) ∷ [])
+    call_only (named 0) 2 []
+    ∷ returns (num 0) ∷ []) ∷ []) ∷ [])
 
 -- y of A
 abbrev pub y : Cell
@@ -134,19 +134,19 @@ CycleOfThree = run cycles [] go ≡ cycled
 -- }
 abbrev pub splits : Typed
 splits = contract (takes [] Num ∷ takes [] Num ∷ takes [] Num ∷ []) (
-  object (num_field ∷ num_field ∷ num_field ∷ []) (
+    object (num_field ∷ num_field ∷ num_field ∷ []) (
     method 0 0 (
-      set_field 0 (num 1)
-      ∷ call_only (named 1) 2 []
-      ∷ set_field 1 (num 2)
-      ∷ returns (num 0) ∷ [])
+    set_field 0 (num 1)
+    ∷ call_only (named 1) 2 []
+    ∷ set_field 1 (num 2)
+    ∷ returns (num 0) ∷ [])
     ∷ method 1 0 (
-      set_field 2 (num 3)
-      ∷ returns (num 0) ∷ []) ∷ [])
-  ∷ object [] (
+    set_field 2 (num 3)
+    ∷ returns (num 0) ∷ []) ∷ [])
+    ∷ object [] (
     method 2 0 (
-      call_only (named 0) 1 []
-      ∷ returns (num 0) ∷ []) ∷ []) ∷ [])
+    call_only (named 0) 1 []
+    ∷ returns (num 0) ∷ []) ∷ []) ∷ [])
 
 -- a of A
 abbrev pub a : Cell
@@ -189,19 +189,19 @@ Apart = run splits [] go ≡ split
 -- }
 abbrev pub fails : Typed
 fails = contract (takes [] Num ∷ takes [] Num ∷ takes [] Num ∷ []) (
-  object (num_field ∷ []) (
+    object (num_field ∷ []) (
     method 0 0 (
-      set_field 0 (num 1)
-      ∷ call_only (named 1) 2 []
-      ∷ set_field 0 (num 2)
-      ∷ reverts (num 9) ∷ [])
+    set_field 0 (num 1)
+    ∷ call_only (named 1) 2 []
+    ∷ set_field 0 (num 2)
+    ∷ reverts (num 9) ∷ [])
     ∷ method 1 0 (
-      set_field 0 (plus (field 0) (num 1))
-      ∷ returns (num 0) ∷ []) ∷ [])
-  ∷ object [] (
+    set_field 0 (plus (field 0) (num 1))
+    ∷ returns (num 0) ∷ []) ∷ [])
+    ∷ object [] (
     method 2 0 (
-      call_only (named 0) 1 []
-      ∷ returns (num 0) ∷ []) ∷ []) ∷ [])
+    call_only (named 0) 1 []
+    ∷ returns (num 0) ∷ []) ∷ []) ∷ [])
 
 -- the caller reverts in the end: the steps up to there stay on record, and the store as it was
 abbrev pub failed : Ran
@@ -232,19 +232,19 @@ RevertsAtLast = run fails [] go ≡ failed
 -- }
 abbrev pub repeats : Typed
 repeats = contract (takes [] Num ∷ takes [] Num ∷ takes [] Num ∷ []) (
-  object (num_field ∷ []) (
+    object (num_field ∷ []) (
     method 0 0 (
-      set_field 0 (num 1)
-      ∷ call_only (named 1) 2 []
-      ∷ set_field 0 (num 1)
-      ∷ returns (num 0) ∷ [])
+    set_field 0 (num 1)
+    ∷ call_only (named 1) 2 []
+    ∷ set_field 0 (num 1)
+    ∷ returns (num 0) ∷ [])
     ∷ method 1 0 (
-      set_field 0 (num 1)
-      ∷ returns (num 0) ∷ []) ∷ [])
-  ∷ object [] (
+    set_field 0 (num 1)
+    ∷ returns (num 0) ∷ []) ∷ [])
+    ∷ object [] (
     method 2 0 (
-      call_only (named 0) 1 []
-      ∷ returns (num 0) ∷ []) ∷ []) ∷ [])
+    call_only (named 0) 1 []
+    ∷ returns (num 0) ∷ []) ∷ []) ∷ [])
 
 -- a write of an equal number is a step like any other
 abbrev pub repeated : Ran

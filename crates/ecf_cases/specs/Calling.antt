@@ -16,20 +16,20 @@ use Rattle.ecf_cases.specs.Words.{contract, takes, object, num_field, map_field,
 -- }
 abbrev pub self_or_here : Typed
 self_or_here = contract (takes [] Num ∷ takes [] Num ∷ takes [] Num ∷ []) (
-  object (num_field ∷ []) (
+    object (num_field ∷ []) (
     method 0 0 (
-      set_field 0 (plus (field 0) (num 1))
-      ∷ returns (field 0) ∷ [])
+    set_field 0 (plus (field 0) (num 1))
+    ∷ returns (field 0) ∷ [])
     ∷ method 1 0 (
-      set_field 0 (num 1)
-      ∷ self_only 0 []
-      ∷ set_field 0 (plus (field 0) (num 1))
-      ∷ returns (field 0) ∷ [])
+    set_field 0 (num 1)
+    ∷ self_only 0 []
+    ∷ set_field 0 (plus (field 0) (num 1))
+    ∷ returns (field 0) ∷ [])
     ∷ method 2 0 (
-      set_field 0 (num 1)
-      ∷ call_only here 0 []
-      ∷ set_field 0 (plus (field 0) (num 1))
-      ∷ returns (field 0) ∷ []) ∷ []) ∷ [])
+    set_field 0 (num 1)
+    ∷ call_only here 0 []
+    ∷ set_field 0 (plus (field 0) (num 1))
+    ∷ returns (field 0) ∷ []) ∷ []) ∷ [])
 
 -- x of A
 abbrev pub x : Cell
@@ -86,14 +86,14 @@ CallsItself = run self_or_here [] out ≡ called_itself
 -- }
 abbrev pub other : Typed
 other = contract (takes [] Num ∷ takes (Num ∷ []) Num ∷ []) (
-  object (num_field ∷ []) (
+    object (num_field ∷ []) (
     method 0 0 (
-      set_field 0 (calls (named 1) 1 (num 3 ∷ []))
-      ∷ returns (field 0) ∷ []) ∷ [])
-  ∷ object (num_field ∷ []) (
+    set_field 0 (calls (named 1) 1 (num 3 ∷ []))
+    ∷ returns (field 0) ∷ []) ∷ [])
+    ∷ object (num_field ∷ []) (
     method 1 1 (
-      set_field 0 (plus (field 0) (local 0))
-      ∷ returns (times (field 0) (num 2)) ∷ []) ∷ []) ∷ [])
+    set_field 0 (plus (field 0) (local 0))
+    ∷ returns (times (field 0) (num 2)) ∷ []) ∷ []) ∷ [])
 
 -- y of B
 abbrev pub y : Cell
@@ -137,19 +137,19 @@ CallsAnother = run other [] go ≡ called_another
 -- }
 abbrev pub goes_on : Typed
 goes_on = contract (takes [] Num ∷ takes (Num ∷ []) Num ∷ takes (Num ∷ []) Num ∷ []) (
-  object (map_field Num Num ∷ []) (
+    object (map_field Num Num ∷ []) (
     method 0 2 (
-      let_num 0 (calls (named 1) 2 (num 10 ∷ []))
-      ∷ let_num 1 (calls (named 1) 2 (num 20 ∷ []))
-      ∷ set_at 0 (calls (named 1) 2 (num 30 ∷ [])) (calls (named 1) 2 (num 40 ∷ []))
-      ∷ call_only (named 1) 2 (plus (local 0) (local 1) ∷ [])
-      ∷ returns (self_calls 1 (num 1 ∷ [])) ∷ [])
+    let_num 0 (calls (named 1) 2 (num 10 ∷ []))
+    ∷ let_num 1 (calls (named 1) 2 (num 20 ∷ []))
+    ∷ set_at 0 (calls (named 1) 2 (num 30 ∷ [])) (calls (named 1) 2 (num 40 ∷ []))
+    ∷ call_only (named 1) 2 (plus (local 0) (local 1) ∷ [])
+    ∷ returns (self_calls 1 (num 1 ∷ [])) ∷ [])
     ∷ method 1 1 (
-      returns (plus (local 0) (calls (named 1) 2 (num 100 ∷ []))) ∷ []) ∷ [])
-  ∷ object (num_field ∷ []) (
+    returns (plus (local 0) (calls (named 1) 2 (num 100 ∷ []))) ∷ []) ∷ [])
+    ∷ object (num_field ∷ []) (
     method 2 1 (
-      set_field 0 (plus (field 0) (local 0))
-      ∷ returns (field 0) ∷ []) ∷ []) ∷ [])
+    set_field 0 (plus (field 0) (local 0))
+    ∷ returns (field 0) ∷ []) ∷ []) ∷ [])
 
 -- m of A, by its key
 abbrev pub m : ℕ → Cell

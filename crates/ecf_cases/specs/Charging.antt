@@ -1,5 +1,5 @@
--- Fuel that ends between a charge and its effect: no charge comes behind what it pays for.
-use Rattle.std.specs.Prelude.{◌≡◌, ℕ, [], ◌∷◌, None}
+-- Fuel that ends at a charge: what comes before it is done, and what comes behind it is not.
+use Rattle.std.specs.Prelude.{◌≡◌, ℕ, [], ◌∷◌, List, None}
 use Rattle.ecf_lang.specs.declared.cell.Cell.{Cell}
 use Rattle.ecf_lang.specs.declared.tree.Op.TheVariants.{Eq}
 use Rattle.ecf_lang.specs.declared.tree.Ty.TheVariants.{Num, Flag}
@@ -7,230 +7,282 @@ use Rattle.ecf_lang.specs.declared.run.Cause.TheVariants.{NoMethod}
 use Rattle.ecf_lang.specs.declared.run.Outcome.TheVariants.{Reverted, OutOfFuel}
 use Rattle.ecf_lang.specs.declared.typed.Typed.{Typed}
 use Rattle.ecf_lang.specs.declared.tx.Tx.{Tx}
+use Rattle.ecf_lang.specs.Store.{Cells}
+use Rattle.ecf_lang.specs.Genesis.{genesis}
 use Rattle.ecf_lang.specs.Meaning.{run, Ran}
-use Rattle.ecf_cases.specs.Words.{contract, takes, object, num_field, map_field, method, num, named, at, plus, over, compare, let_try, set_at, returns, reverts, call_only, self_only, transaction, calling, cell, reads, writes, invoked}
+use Rattle.ecf_cases.specs.Words.{contract, takes, object, num_field, flag_field, map_field, starting, method, num, local, field, named, at, no, plus, times, compare, all_of, any_of, self_calls, let_num, let_try, set_local, set_field, set_at, when, while, returns, reverts, call_only, self_only, transaction, calling, cell, reads, invoked}
+use Rattle.ecf_lang.specs.declared.run.Step.{Step}
 
 -- object A {
---   num x;
+--   num x = 7;
+--   num y = 8;
+--   flag f = true;
 --   map m: num -> num;
---   method read_map(): num { return m[5]; }
---   method write_map(): num { m[5] = 1; return 0; }
---   method add(): num { return 340282366920938463463374607431768211455 + 1; }
---   method same(): flag { return 1 / 0 == 2; }
+--   method keep(): num { let n: num = x; return 0; }
+--   method keep_again(): num { let n: num = 0; n = x; return 0; }
+--   method set(): num { y = x; return 0; }
+--   method set_map(): num { m[x] = y; return 0; }
+--   method test(): num { if x == 0 { return 1; } return 0; }
+--   method turn(): num { while x == 0 { return 1; } return 0; }
+--   method answer(): num { return x; }
+--   method stop(): num { revert x; }
+--   method own_only(): num { self.id(x); return 0; }
+--   method call_only(): num { call B.id(x); return 0; }
+--   method attempt(): num { let ok: flag = try B.id(x); return 0; }
+--   method read_map(): num { return m[x]; }
+--   method add(): num { return x + y; }
+--   method multiply(): num { return x * y; }
+--   method compare(): flag { return x == y; }
+--   method negate(): flag { return ! f; }
+--   method both(): flag { return f && f; }
+--   method either(): flag { return ! f || f; }
+--   method own_answer(): num { return self.id(x); }
+--   method big(): num { return 340282366920938463463374607431768211455 + 1; }
+--   method own_missing(): num { self.gone(); return 0; }
 --   method call_missing(): num { call B.gone(); return 0; }
---   method call_there(): num { call B.there(); return 0; }
 --   method try_missing(): num { let ok: flag = try B.gone(); return 0; }
---   method self_missing(): num { self.gone(); return 0; }
---   method stop(): num { revert 3; }
+--   method id(n: num): num { return n; }
 -- }
 -- object B {
---   method there(): num { return 4; }
+--   method id(n: num): num { return n; }
 -- }
 abbrev pub dear : Typed
-dear = contract (takes [] Num ∷ takes [] Num ∷ takes [] Num ∷ takes [] Flag ∷ takes [] Num ∷ takes [] Num ∷ takes [] Num ∷ takes [] Num ∷ takes [] Num ∷ takes [] Num ∷ takes [] Num ∷ []) (
-  object (num_field ∷ map_field Num Num ∷ []) (
-    method 0 0 (
-      returns (at 1 (num 5)) ∷ [])
-    ∷ method 1 0 (
-      set_at 1 (num 5) (num 1)
-      ∷ returns (num 0) ∷ [])
+dear = contract (takes [] Num ∷ takes [] Num ∷ takes [] Num ∷ takes [] Num ∷ takes [] Num ∷ takes [] Num ∷ takes [] Num ∷ takes [] Num ∷ takes [] Num ∷ takes [] Num ∷ takes [] Num ∷ takes [] Num ∷ takes [] Num ∷ takes [] Num ∷ takes [] Flag ∷ takes [] Flag ∷ takes [] Flag ∷ takes [] Flag ∷ takes [] Num ∷ takes [] Num ∷ takes [] Num ∷ takes [] Num ∷ takes [] Num ∷ takes (Num ∷ []) Num ∷ takes [] Num ∷ []) (
+    object (starting ((0, 7) ∷ []) num_field ∷ starting ((0, 8) ∷ []) num_field ∷ starting ((0, 1) ∷ []) flag_field ∷ map_field Num Num ∷ []) (
+    method 0 1 (
+    let_num 0 (field 0)
+    ∷ returns (num 0) ∷ [])
+    ∷ method 1 1 (
+    let_num 0 (num 0)
+    ∷ set_local 0 (field 0)
+    ∷ returns (num 0) ∷ [])
     ∷ method 2 0 (
-      returns (plus (num 340282366920938463463374607431768211455) (num 1)) ∷ [])
+    set_field 1 (field 0)
+    ∷ returns (num 0) ∷ [])
     ∷ method 3 0 (
-      returns (compare (over (num 1) (num 0)) Eq (num 2)) ∷ [])
+    set_at 3 (field 0) (field 1)
+    ∷ returns (num 0) ∷ [])
     ∷ method 4 0 (
-      call_only (named 1) 10 []
-      ∷ returns (num 0) ∷ [])
+    when (compare (field 0) Eq (num 0)) (
+    returns (num 1) ∷ [])
+    ∷ returns (num 0) ∷ [])
     ∷ method 5 0 (
-      call_only (named 1) 9 []
-      ∷ returns (num 0) ∷ [])
-    ∷ method 6 1 (
-      let_try 0 (named 1) 10 []
-      ∷ returns (num 0) ∷ [])
+    while (compare (field 0) Eq (num 0)) (
+    returns (num 1) ∷ [])
+    ∷ returns (num 0) ∷ [])
+    ∷ method 6 0 (
+    returns (field 0) ∷ [])
     ∷ method 7 0 (
-      self_only 10 []
-      ∷ returns (num 0) ∷ [])
+    reverts (field 0) ∷ [])
     ∷ method 8 0 (
-      reverts (num 3) ∷ []) ∷ [])
-  ∷ object [] (
-    method 9 0 (
-      returns (num 4) ∷ []) ∷ []) ∷ [])
+    self_only 23 (field 0 ∷ [])
+    ∷ returns (num 0) ∷ [])
+    ∷ method 9 0 (
+    call_only (named 1) 23 (field 0 ∷ [])
+    ∷ returns (num 0) ∷ [])
+    ∷ method 10 1 (
+    let_try 0 (named 1) 23 (field 0 ∷ [])
+    ∷ returns (num 0) ∷ [])
+    ∷ method 11 0 (
+    returns (at 3 (field 0)) ∷ [])
+    ∷ method 12 0 (
+    returns (plus (field 0) (field 1)) ∷ [])
+    ∷ method 13 0 (
+    returns (times (field 0) (field 1)) ∷ [])
+    ∷ method 14 0 (
+    returns (compare (field 0) Eq (field 1)) ∷ [])
+    ∷ method 15 0 (
+    returns (no (field 2)) ∷ [])
+    ∷ method 16 0 (
+    returns (all_of (field 2 ∷ field 2 ∷ [])) ∷ [])
+    ∷ method 17 0 (
+    returns (any_of (no (field 2) ∷ field 2 ∷ [])) ∷ [])
+    ∷ method 18 0 (
+    returns (self_calls 23 (field 0 ∷ [])) ∷ [])
+    ∷ method 19 0 (
+    returns (plus (num 340282366920938463463374607431768211455) (num 1)) ∷ [])
+    ∷ method 20 0 (
+    self_only 24 []
+    ∷ returns (num 0) ∷ [])
+    ∷ method 21 0 (
+    call_only (named 1) 24 []
+    ∷ returns (num 0) ∷ [])
+    ∷ method 22 1 (
+    let_try 0 (named 1) 24 []
+    ∷ returns (num 0) ∷ [])
+    ∷ method 23 1 (
+    returns (local 0) ∷ []) ∷ [])
+    ∷ object [] (
+    method 23 1 (
+    returns (local 0) ∷ []) ∷ []) ∷ [])
 
 -- x of A
 abbrev pub x : Cell
 x = cell 0 0 0
 
+-- y of A
+abbrev pub y : Cell
+y = cell 0 1 0
+
+-- f of A
+abbrev pub f : Cell
+f = cell 0 2 0
+
 -- m of A, by its key
 abbrev pub m : ℕ → Cell
-m key = cell 0 1 key
+m key = cell 0 3 key
 
--- A read_map 4
-abbrev pub read_map_4 : Tx
-read_map_4 = transaction 4 (calling 0 0 [] ∷ [])
+-- a call of a method of A, by its number in the text from 0, with so much fuel
+abbrev pub asks : ℕ → ℕ → Tx
+asks name fuel = transaction fuel (calling 0 name [] ∷ [])
 
--- a read of a map
-abbrev pub map_not_read : Ran
-map_not_read = record {
+-- fuel ends in a method of A, after these charges, steps and reads
+abbrev pub ends : ℕ → ℕ → ℕ → List Step → Cells → Ran
+ends name fuel own_fuel made seen = record {
   outcome = OutOfFuel;
-  fuel = 4;
-  store = [];
-  steps = [];
-  invocations = invoked 0 0 [] None [] 2 ∷ [];
-  reads = [];
+  fuel = fuel;
+  store = genesis dear;
+  steps = made;
+  invocations = invoked 0 name [] None [] own_fuel ∷ [];
+  reads = seen;
   writes = [];
 }
 
-abbrev pub UnpaidMapRead : Type 0
-UnpaidMapRead = run dear [] read_map_4 ≡ map_not_read
+-- a `let` is charged before its value
+abbrev pub ChargedBeforeLet : Type 0
+ChargedBeforeLet = run dear (genesis dear) (asks 0 3) ≡ ends 0 3 1 [] []
 
--- A write_map 6
-abbrev pub write_map_6 : Tx
-write_map_6 = transaction 6 (calling 0 1 [] ∷ [])
+-- an assignment to a field is charged before its value
+abbrev pub ChargedBeforeSet : Type 0
+ChargedBeforeSet = run dear (genesis dear) (asks 2 3) ≡ ends 2 3 1 [] []
 
--- a write of a map
-abbrev pub map_not_written : Ran
-map_not_written = record {
-  outcome = OutOfFuel;
-  fuel = 6;
-  store = [];
-  steps = [];
-  invocations = invoked 0 1 [] None [] 3 ∷ [];
-  reads = [];
-  writes = [];
-}
+-- an assignment to an element is charged before its index
+abbrev pub ChargedBeforeSetMap : Type 0
+ChargedBeforeSetMap = run dear (genesis dear) (asks 3 3) ≡ ends 3 3 1 [] []
 
-abbrev pub UnpaidMapWrite : Type 0
-UnpaidMapWrite = run dear [] write_map_6 ≡ map_not_written
+-- an `if` is charged before its condition
+abbrev pub ChargedBeforeIf : Type 0
+ChargedBeforeIf = run dear (genesis dear) (asks 4 3) ≡ ends 4 3 1 [] []
 
--- A add 3
-abbrev pub add_3 : Tx
-add_3 = transaction 3 (calling 0 2 [] ∷ [])
+-- a `while` is charged before its condition
+abbrev pub ChargedBeforeWhile : Type 0
+ChargedBeforeWhile = run dear (genesis dear) (asks 5 3) ≡ ends 5 3 1 [] []
 
--- an operator: want of fuel comes, and not the overflow
-abbrev pub not_added : Ran
-not_added = record {
-  outcome = OutOfFuel;
-  fuel = 3;
-  store = [];
-  steps = [];
-  invocations = invoked 0 2 [] None [] 3 ∷ [];
-  reads = [];
-  writes = [];
-}
+-- a `return` is charged before its value
+abbrev pub ChargedBeforeReturn : Type 0
+ChargedBeforeReturn = run dear (genesis dear) (asks 6 3) ≡ ends 6 3 1 [] []
 
-abbrev pub UnpaidSum : Type 0
-UnpaidSum = run dear [] add_3 ≡ not_added
+-- a `revert` is charged before its number
+abbrev pub ChargedBeforeRevert : Type 0
+ChargedBeforeRevert = run dear (genesis dear) (asks 7 3) ≡ ends 7 3 1 [] []
 
--- A call_missing 12
-abbrev pub call_missing_12 : Tx
-call_missing_12 = transaction 12 (calling 0 4 [] ∷ [])
+-- a call as a statement is charged before its arguments
+abbrev pub ChargedBeforeDo : Type 0
+ChargedBeforeDo = run dear (genesis dear) (asks 8 3) ≡ ends 8 3 1 [] []
 
--- a call: want of fuel comes, and not the missing method
-abbrev pub not_tested : Ran
-not_tested = record {
-  outcome = OutOfFuel;
-  fuel = 12;
-  store = [];
-  steps = [];
-  invocations = invoked 0 4 [] None [] 2 ∷ [];
-  reads = [];
-  writes = [];
-}
+-- a `try` is charged before its arguments
+abbrev pub ChargedBeforeTry : Type 0
+ChargedBeforeTry = run dear (genesis dear) (asks 10 3) ≡ ends 10 3 2 [] []
 
-abbrev pub UnpaidCallTest : Type 0
-UnpaidCallTest = run dear [] call_missing_12 ≡ not_tested
+-- an assignment to a local is charged before its value
+abbrev pub ChargedBeforeSetLocal : Type 0
+ChargedBeforeSetLocal = run dear (genesis dear) (asks 1 5) ≡ ends 1 5 3 [] []
 
--- A call_there 12
-abbrev pub call_there_12 : Tx
-call_there_12 = transaction 12 (calling 0 5 [] ∷ [])
+-- the value of an assignment comes before the charge of the write
+abbrev pub ValueBeforeWriteCharge : Type 0
+ValueBeforeWriteCharge = run dear (genesis dear) (asks 2 4) ≡ ends 2 4 4 (reads 0 x 7 ∷ []) ((x, 7) ∷ [])
 
--- a call: no invocation is opened
-abbrev pub not_called : Ran
-not_called = record {
-  outcome = OutOfFuel;
-  fuel = 12;
-  store = [];
-  steps = [];
-  invocations = invoked 0 5 [] None [] 2 ∷ [];
-  reads = [];
-  writes = [];
-}
+-- which comes before the write
+abbrev pub WriteCharge : Type 0
+WriteCharge = run dear (genesis dear) (asks 2 7) ≡ ends 2 7 4 (reads 0 x 7 ∷ []) ((x, 7) ∷ [])
 
-abbrev pub UnpaidCallee : Type 0
-UnpaidCallee = run dear [] call_there_12 ≡ not_called
+-- index and value come before the charge of the write
+abbrev pub IndexAndValueFirst : Type 0
+IndexAndValueFirst = run dear (genesis dear) (asks 3 7) ≡ ends 3 7 7 (reads 0 x 7 ∷ reads 0 y 8 ∷ []) ((x, 7) ∷ (y, 8) ∷ [])
 
--- A try_missing 12
-abbrev pub try_missing_12 : Tx
-try_missing_12 = transaction 12 (calling 0 6 [] ∷ [])
+-- which comes before the write
+abbrev pub MapWriteCharge : Type 0
+MapWriteCharge = run dear (genesis dear) (asks 3 10) ≡ ends 3 10 7 (reads 0 x 7 ∷ reads 0 y 8 ∷ []) ((x, 7) ∷ (y, 8) ∷ [])
 
--- a `try`: want of fuel comes, which is not caught
-abbrev pub not_tried : Ran
-not_tried = record {
-  outcome = OutOfFuel;
-  fuel = 12;
-  store = [];
-  steps = [];
-  invocations = invoked 0 6 [] None [] 2 ∷ [];
-  reads = [];
-  writes = [];
-}
+-- the condition of a loop comes before the charge of the turn
+abbrev pub ConditionBeforeTurn : Type 0
+ConditionBeforeTurn = run dear (genesis dear) (asks 5 4) ≡ ends 5 4 4 (reads 0 x 7 ∷ []) ((x, 7) ∷ [])
 
-abbrev pub UnpaidTryTest : Type 0
-UnpaidTryTest = run dear [] try_missing_12 ≡ not_tried
+-- the index comes before the charge of the read
+abbrev pub IndexBeforeReadCharge : Type 0
+IndexBeforeReadCharge = run dear (genesis dear) (asks 11 4) ≡ ends 11 4 4 (reads 0 x 7 ∷ []) ((x, 7) ∷ [])
 
--- A self_missing 4
-abbrev pub self_missing_4 : Tx
-self_missing_4 = transaction 4 (calling 0 7 [] ∷ [])
+-- which comes before the read
+abbrev pub MapReadCharge : Type 0
+MapReadCharge = run dear (genesis dear) (asks 11 6) ≡ ends 11 6 4 (reads 0 x 7 ∷ []) ((x, 7) ∷ [])
 
--- an internal call: want of fuel comes, and not the missing method
-abbrev pub not_entered : Ran
-not_entered = record {
-  outcome = OutOfFuel;
-  fuel = 4;
-  store = [];
-  steps = [];
-  invocations = invoked 0 7 [] None [] 1 ∷ [];
-  reads = [];
-  writes = [];
-}
+-- the parts of a sum come before the charge of the operator
+abbrev pub PartsBeforeSum : Type 0
+PartsBeforeSum = run dear (genesis dear) (asks 12 7) ≡ ends 12 7 7 (reads 0 x 7 ∷ reads 0 y 8 ∷ []) ((x, 7) ∷ (y, 8) ∷ [])
 
-abbrev pub UnpaidInternalTest : Type 0
-UnpaidInternalTest = run dear [] self_missing_4 ≡ not_entered
+-- so in a product
+abbrev pub PartsBeforeProduct : Type 0
+PartsBeforeProduct = run dear (genesis dear) (asks 13 7) ≡ ends 13 7 7 (reads 0 x 7 ∷ reads 0 y 8 ∷ []) ((x, 7) ∷ (y, 8) ∷ [])
 
--- A stop 1
-abbrev pub stop_1 : Tx
-stop_1 = transaction 1 (calling 0 8 [] ∷ [])
+-- so in a comparison
+abbrev pub SidesBeforeComparison : Type 0
+SidesBeforeComparison = run dear (genesis dear) (asks 14 7) ≡ ends 14 7 7 (reads 0 x 7 ∷ reads 0 y 8 ∷ []) ((x, 7) ∷ (y, 8) ∷ [])
 
--- the number of a `revert`
-abbrev pub not_reverted : Ran
-not_reverted = record {
-  outcome = OutOfFuel;
-  fuel = 1;
-  store = [];
-  steps = [];
-  invocations = invoked 0 8 [] None [] 1 ∷ [];
-  reads = [];
-  writes = [];
-}
+-- so under a `!`
+abbrev pub InnerBeforeNot : Type 0
+InnerBeforeNot = run dear (genesis dear) (asks 15 4) ≡ ends 15 4 4 (reads 0 f 1 ∷ []) ((f, 1) ∷ [])
 
-abbrev pub UnpaidRevert : Type 0
-UnpaidRevert = run dear [] stop_1 ≡ not_reverted
+-- in an `&&` the charge comes before the further part
+abbrev pub AndCharge : Type 0
+AndCharge = run dear (genesis dear) (asks 16 6) ≡ ends 16 6 5 (reads 0 f 1 ∷ []) ((f, 1) ∷ [])
+
+-- so in an `||`
+abbrev pub OrCharge : Type 0
+OrCharge = run dear (genesis dear) (asks 17 7) ≡ ends 17 7 6 (reads 0 f 1 ∷ []) ((f, 1) ∷ [])
+
+-- the arguments of an internal call come before its charge
+abbrev pub ArgumentsBeforeInternalCharge : Type 0
+ArgumentsBeforeInternalCharge = run dear (genesis dear) (asks 18 6) ≡ ends 18 6 4 (reads 0 x 7 ∷ []) ((x, 7) ∷ [])
+
+-- so of an external call, whose charge comes before its invocation opens
+abbrev pub ArgumentsBeforeCallCharge : Type 0
+ArgumentsBeforeCallCharge = run dear (genesis dear) (asks 9 14) ≡ ends 9 14 5 (reads 0 x 7 ∷ []) ((x, 7) ∷ [])
+
+-- so of a `try`, which does not catch it
+abbrev pub ArgumentsBeforeTryCharge : Type 0
+ArgumentsBeforeTryCharge = run dear (genesis dear) (asks 10 14) ≡ ends 10 14 5 (reads 0 x 7 ∷ []) ((x, 7) ∷ [])
+
+-- the charge of an operator comes before its overflow
+abbrev pub OperatorCharge : Type 0
+OperatorCharge = run dear (genesis dear) (asks 19 3) ≡ ends 19 3 3 [] []
+
+-- the charge of an internal call comes before the test for the method
+abbrev pub InternalTestCharge : Type 0
+InternalTestCharge = run dear (genesis dear) (asks 20 4) ≡ ends 20 4 1 [] []
+
+-- so of an external call
+abbrev pub TestCharge : Type 0
+TestCharge = run dear (genesis dear) (asks 21 12) ≡ ends 21 12 2 [] []
+
+-- so of a `try`
+abbrev pub TryTestCharge : Type 0
+TryTestCharge = run dear (genesis dear) (asks 22 12) ≡ ends 22 12 2 [] []
 
 -- A call_missing 13
-abbrev pub call_missing_13 : Tx
-call_missing_13 = transaction 13 (calling 0 4 [] ∷ [])
+abbrev pub with_one_more : Tx
+with_one_more = transaction 13 (calling 0 21 [] ∷ [])
 
 -- one more, and the test is made
-abbrev pub tested_at_last : Ran
-tested_at_last = record {
+abbrev pub tested : Ran
+tested = record {
   outcome = Reverted NoMethod;
   fuel = 13;
-  store = [];
+  store = (x, 7) ∷ (y, 8) ∷ (f, 1) ∷ [];
   steps = [];
-  invocations = invoked 0 4 [] None [] 13 ∷ [];
+  invocations = invoked 0 21 [] None [] 13 ∷ [];
   reads = [];
   writes = [];
 }
 
 abbrev pub PaidTest : Type 0
-PaidTest = run dear [] call_missing_13 ≡ tested_at_last
+PaidTest = run dear (genesis dear) with_one_more ≡ tested

@@ -17,10 +17,10 @@ use Rattle.ecf_cases.specs.Words.{contract, takes, object, num_field, method, nu
 -- }
 abbrev pub counter : Typed
 counter = contract (takes [] Num ∷ []) (
-  object (num_field ∷ []) (
+    object (num_field ∷ []) (
     method 0 0 (
-      set_field 0 (plus (field 0) (num 1))
-      ∷ returns (field 0) ∷ []) ∷ []) ∷ [])
+    set_field 0 (plus (field 0) (num 1))
+    ∷ returns (field 0) ∷ []) ∷ []) ∷ [])
 
 -- n of Counter
 abbrev pub n : Cell

@@ -1,14 +1,14 @@
 -- A method that calls itself until no frame may be opened.
-use Rattle.std.specs.Prelude.{◌≡◌, [], ◌∷◌, None}
+use Rattle.std.specs.Prelude.{◌≡◌, ◌++◌, [], ◌∷◌, Some, None, replicate}
 use Rattle.ecf_lang.specs.declared.cell.Cell.{Cell}
-use Rattle.ecf_lang.specs.declared.tree.Ty.TheVariants.{Num}
+use Rattle.ecf_lang.specs.declared.tree.Ty.TheVariants.{Num, Flag}
 use Rattle.ecf_lang.specs.declared.run.Cause.TheVariants.{Depth}
-use Rattle.ecf_lang.specs.declared.run.Outcome.TheVariants.{Reverted, OutOfFuel}
+use Rattle.ecf_lang.specs.declared.run.Outcome.TheVariants.{Answer, Reverted, OutOfFuel}
 use Rattle.ecf_lang.specs.declared.typed.Typed.{Typed}
 use Rattle.ecf_lang.specs.declared.tx.Tx.{Tx}
 use Rattle.ecf_lang.specs.Genesis.{genesis}
 use Rattle.ecf_lang.specs.Meaning.{run, Ran}
-use Rattle.ecf_cases.specs.Words.{contract, takes, object, num_field, starting, method, num, self_calls, set_field, returns, transaction, calling, cell, reads, writes, invoked}
+use Rattle.ecf_cases.specs.Words.{contract, takes, object, num_field, starting, method, num, here, local, calls, self_calls, let_try, set_field, returns, transaction, calling, cell, writes, invoked}
 
 -- object M {
 --   num x = 7;
@@ -16,10 +16,10 @@ use Rattle.ecf_cases.specs.Words.{contract, takes, object, num_field, starting, 
 -- }
 abbrev pub deep : Typed
 deep = contract (takes [] Num ∷ []) (
-  object (starting ((0, 7) ∷ []) num_field ∷ []) (
+    object (starting ((0, 7) ∷ []) num_field ∷ []) (
     method 0 0 (
-      set_field 0 (num 0)
-      ∷ returns (self_calls 0 []) ∷ []) ∷ []) ∷ [])
+    set_field 0 (num 0)
+    ∷ returns (self_calls 0 []) ∷ []) ∷ []) ∷ [])
 
 -- x of M
 abbrev pub x : Cell
@@ -35,16 +35,7 @@ too_deep = record {
   outcome = Reverted Depth;
   fuel = 704;
   store = (x, 7) ∷ [];
-  steps = writes 0 x 0 ∷ writes 0 x 0 ∷ writes 0 x 0 ∷ writes 0 x 0 ∷ writes 0 x 0 ∷ writes 0 x 0 ∷ writes 0 x 0
-      ∷ writes 0 x 0 ∷ writes 0 x 0 ∷ writes 0 x 0 ∷ writes 0 x 0 ∷ writes 0 x 0 ∷ writes 0 x 0 ∷ writes 0 x 0
-      ∷ writes 0 x 0 ∷ writes 0 x 0 ∷ writes 0 x 0 ∷ writes 0 x 0 ∷ writes 0 x 0 ∷ writes 0 x 0 ∷ writes 0 x 0
-      ∷ writes 0 x 0 ∷ writes 0 x 0 ∷ writes 0 x 0 ∷ writes 0 x 0 ∷ writes 0 x 0 ∷ writes 0 x 0 ∷ writes 0 x 0
-      ∷ writes 0 x 0 ∷ writes 0 x 0 ∷ writes 0 x 0 ∷ writes 0 x 0 ∷ writes 0 x 0 ∷ writes 0 x 0 ∷ writes 0 x 0
-      ∷ writes 0 x 0 ∷ writes 0 x 0 ∷ writes 0 x 0 ∷ writes 0 x 0 ∷ writes 0 x 0 ∷ writes 0 x 0 ∷ writes 0 x 0
-      ∷ writes 0 x 0 ∷ writes 0 x 0 ∷ writes 0 x 0 ∷ writes 0 x 0 ∷ writes 0 x 0 ∷ writes 0 x 0 ∷ writes 0 x 0
-      ∷ writes 0 x 0 ∷ writes 0 x 0 ∷ writes 0 x 0 ∷ writes 0 x 0 ∷ writes 0 x 0 ∷ writes 0 x 0 ∷ writes 0 x 0
-      ∷ writes 0 x 0 ∷ writes 0 x 0 ∷ writes 0 x 0 ∷ writes 0 x 0 ∷ writes 0 x 0 ∷ writes 0 x 0 ∷ writes 0 x 0
-      ∷ writes 0 x 0 ∷ [];
+  steps = replicate 64 (writes 0 x 0);
   invocations = invoked 0 0 [] None [] 704 ∷ [];
   reads = [];
   writes = [];
@@ -63,16 +54,7 @@ not_paid = record {
   outcome = OutOfFuel;
   fuel = 703;
   store = (x, 7) ∷ [];
-  steps = writes 0 x 0 ∷ writes 0 x 0 ∷ writes 0 x 0 ∷ writes 0 x 0 ∷ writes 0 x 0 ∷ writes 0 x 0 ∷ writes 0 x 0
-      ∷ writes 0 x 0 ∷ writes 0 x 0 ∷ writes 0 x 0 ∷ writes 0 x 0 ∷ writes 0 x 0 ∷ writes 0 x 0 ∷ writes 0 x 0
-      ∷ writes 0 x 0 ∷ writes 0 x 0 ∷ writes 0 x 0 ∷ writes 0 x 0 ∷ writes 0 x 0 ∷ writes 0 x 0 ∷ writes 0 x 0
-      ∷ writes 0 x 0 ∷ writes 0 x 0 ∷ writes 0 x 0 ∷ writes 0 x 0 ∷ writes 0 x 0 ∷ writes 0 x 0 ∷ writes 0 x 0
-      ∷ writes 0 x 0 ∷ writes 0 x 0 ∷ writes 0 x 0 ∷ writes 0 x 0 ∷ writes 0 x 0 ∷ writes 0 x 0 ∷ writes 0 x 0
-      ∷ writes 0 x 0 ∷ writes 0 x 0 ∷ writes 0 x 0 ∷ writes 0 x 0 ∷ writes 0 x 0 ∷ writes 0 x 0 ∷ writes 0 x 0
-      ∷ writes 0 x 0 ∷ writes 0 x 0 ∷ writes 0 x 0 ∷ writes 0 x 0 ∷ writes 0 x 0 ∷ writes 0 x 0 ∷ writes 0 x 0
-      ∷ writes 0 x 0 ∷ writes 0 x 0 ∷ writes 0 x 0 ∷ writes 0 x 0 ∷ writes 0 x 0 ∷ writes 0 x 0 ∷ writes 0 x 0
-      ∷ writes 0 x 0 ∷ writes 0 x 0 ∷ writes 0 x 0 ∷ writes 0 x 0 ∷ writes 0 x 0 ∷ writes 0 x 0 ∷ writes 0 x 0
-      ∷ writes 0 x 0 ∷ [];
+  steps = replicate 64 (writes 0 x 0);
   invocations = invoked 0 0 [] None [] 700 ∷ [];
   reads = [];
   writes = [];
@@ -80,3 +62,79 @@ not_paid = record {
 
 abbrev pub NotPaid : Type 0
 NotPaid = run deep (genesis deep) go_with_less ≡ not_paid
+
+-- object M {
+--   method deep(): num { return call here.deep(); }
+-- }
+abbrev pub deep_outside : Typed
+deep_outside = contract (takes [] Num ∷ []) (
+    object [] (
+    method 0 0 (
+    returns (calls here 0 []) ∷ []) ∷ []) ∷ [])
+
+-- M deep 832
+abbrev pub go_outside : Tx
+go_outside = transaction 832 (calling 0 0 [] ∷ [])
+
+-- so by external calls
+abbrev pub too_deep_outside : Ran
+too_deep_outside = record {
+  outcome = Reverted Depth;
+  fuel = 832;
+  store = [];
+  steps = [];
+  invocations = replicate 64 (invoked 0 0 [] None [] 13);
+  reads = [];
+  writes = [];
+}
+
+abbrev pub TooDeepOutside : Type 0
+TooDeepOutside = run deep_outside [] go_outside ≡ too_deep_outside
+
+-- M deep 831
+abbrev pub go_outside_with_less : Tx
+go_outside_with_less = transaction 831 (calling 0 0 [] ∷ [])
+
+-- one less
+abbrev pub not_paid_outside : Ran
+not_paid_outside = record {
+  outcome = OutOfFuel;
+  fuel = 831;
+  store = [];
+  steps = [];
+  invocations = replicate 63 (invoked 0 0 [] None [] 13) ++ invoked 0 0 [] None [] 2 ∷ [];
+  reads = [];
+  writes = [];
+}
+
+abbrev pub NotPaidOutside : Type 0
+NotPaidOutside = run deep_outside [] go_outside_with_less ≡ not_paid_outside
+
+-- object M {
+--   method deep(): flag { let ok: flag = try here.deep(); return ok; }
+-- }
+abbrev pub deep_tries : Typed
+deep_tries = contract (takes [] Flag ∷ []) (
+    object [] (
+    method 0 1 (
+    let_try 0 here 0 []
+    ∷ returns (local 0) ∷ []) ∷ []) ∷ [])
+
+-- M deep 1000
+abbrev pub try_outside : Tx
+try_outside = transaction 1000 (calling 0 0 [] ∷ [])
+
+-- the innermost `try` catches that no frame may be opened
+abbrev pub caught_depth : Ran
+caught_depth = record {
+  outcome = Answer 1;
+  fuel = 960;
+  store = [];
+  steps = [];
+  invocations = replicate 63 (invoked 0 0 [] (Some 1) (1 ∷ []) 15) ++ invoked 0 0 [] (Some 0) (0 ∷ []) 15 ∷ [];
+  reads = [];
+  writes = [];
+}
+
+abbrev pub CatchesDepth : Type 0
+CatchesDepth = run deep_tries [] try_outside ≡ caught_depth

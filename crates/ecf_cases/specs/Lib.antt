@@ -6,7 +6,9 @@ pub mod Calling
 pub mod Charging
 pub mod Counter
 pub mod Depth
+pub mod Limits
 pub mod Logic
+pub mod Lonely
 pub mod Loop
 pub mod Order
 pub mod Reverting

@@ -25,23 +25,29 @@ use Rattle.ecf_cases.specs.Words.{contract, takes, object, num_field, flag_field
 -- }
 abbrev pub logic : Typed
 logic = contract (takes (Num ∷ []) Flag ∷ takes (Num ∷ []) Flag ∷ takes (Num ∷ []) Flag ∷ takes (Num ∷ []) Num ∷ takes (Num ∷ []) Num ∷ []) (
-  object (starting ((0, 3) ∷ []) num_field ∷ starting ((0, 1) ∷ []) flag_field ∷ []) (
+    object (starting ((0, 3) ∷ []) num_field ∷ starting ((0, 1) ∷ []) flag_field ∷ []) (
     method 0 1 (
-      returns (all_of (compare (local 0) Lt (num 2) ∷ compare (field 0) Eq (num 3) ∷ [])) ∷ [])
+    returns (all_of (compare (local 0) Lt (num 2) ∷ compare (field 0) Eq (num 3) ∷ [])) ∷ [])
     ∷ method 1 1 (
-      returns (any_of (compare (local 0) Ge (num 2) ∷ compare (field 0) Ne (num 3) ∷ [])) ∷ [])
+    returns (any_of (compare (local 0) Ge (num 2) ∷ compare (field 0) Ne (num 3) ∷ [])) ∷ [])
     ∷ method 2 1 (
-      returns (all_of (compare (local 0) Le (num 5) ∷ compare (local 0) Gt (num 1) ∷ no (field 1) ∷ [])) ∷ [])
+    returns (all_of (compare (local 0) Le (num 5) ∷ compare (local 0) Gt (num 1) ∷ no (field 1) ∷ [])) ∷ [])
     ∷ method 3 1 (
-      choose ((compare (local 0) Eq (num 0), block (
-          returns (num 10) ∷ [])) ∷ (compare (local 0) Eq (num 1), block (
-          set_field 0 (num 20) ∷ [])) ∷ []) (Some (block (
-          set_field 0 (num 30) ∷ [])))
-      ∷ returns (field 0) ∷ [])
+    choose ((
+      compare (local 0) Eq (num 0),
+      block (
+          returns (num 10) ∷ []),
+    ) ∷ (
+      compare (local 0) Eq (num 1),
+      block (
+          set_field 0 (num 20) ∷ []),
+    ) ∷ []) (Some (block (
+    set_field 0 (num 30) ∷ [])))
+    ∷ returns (field 0) ∷ [])
     ∷ method 4 1 (
-      when (compare (local 0) Eq (num 0)) (
-          returns (num 5) ∷ [])
-      ∷ set_field 0 (local 0) ∷ []) ∷ []) ∷ [])
+    when (compare (local 0) Eq (num 0)) (
+    returns (num 5) ∷ [])
+    ∷ set_field 0 (local 0) ∷ []) ∷ []) ∷ [])
 
 -- x of L
 abbrev pub x : Cell
@@ -269,13 +275,13 @@ NoElse = run logic (genesis logic) silent_0 ≡ no_else
 -- }
 abbrev pub flags : Typed
 flags = contract (takes [] Flag ∷ takes [] Flag ∷ takes [] Flag ∷ []) (
-  object (flag_field ∷ flag_field ∷ []) (
+    object (flag_field ∷ flag_field ∷ []) (
     method 0 0 (
-      returns (all_of (field 0 ∷ field 1 ∷ [])) ∷ [])
+    returns (all_of (field 0 ∷ field 1 ∷ [])) ∷ [])
     ∷ method 1 0 (
-      returns (any_of (field 0 ∷ field 1 ∷ [])) ∷ [])
+    returns (any_of (field 0 ∷ field 1 ∷ [])) ∷ [])
     ∷ method 2 0 (
-      returns (no (field 0)) ∷ []) ∷ []) ∷ [])
+    returns (no (field 0)) ∷ []) ∷ []) ∷ [])
 
 -- a of G
 abbrev pub a : Cell

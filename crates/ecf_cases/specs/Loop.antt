@@ -24,15 +24,15 @@ use Rattle.ecf_cases.specs.Words.{contract, takes, object, map_field, method, nu
 -- }
 abbrev pub squares : Typed
 squares = contract (takes (Num ∷ []) Num ∷ []) (
-  object (map_field Num Num ∷ []) (
+    object (map_field Num Num ∷ []) (
     method 0 3 (
-      let_num 1 (num 0)
-      ∷ let_num 2 (num 0)
-      ∷ while (compare (local 1) Lt (local 0)) (
-          set_local 1 (plus (local 1) (num 1))
-          ∷ set_at 0 (local 1) (times (local 1) (local 1))
-          ∷ set_local 2 (plus (local 2) (at 0 (local 1))) ∷ [])
-      ∷ returns (local 2) ∷ []) ∷ []) ∷ [])
+    let_num 1 (num 0)
+    ∷ let_num 2 (num 0)
+    ∷ while (compare (local 1) Lt (local 0)) (
+    set_local 1 (plus (local 1) (num 1))
+    ∷ set_at 0 (local 1) (times (local 1) (local 1))
+    ∷ set_local 2 (plus (local 2) (at 0 (local 1))) ∷ [])
+    ∷ returns (local 2) ∷ []) ∷ []) ∷ [])
 
 -- m of S, by its key
 abbrev pub m : ℕ → Cell
@@ -89,14 +89,14 @@ NoTurn = run squares [] sum_of_none ≡ no_turn
 -- }
 abbrev pub returning : Typed
 returning = contract (takes (Num ∷ []) Num ∷ []) (
-  object [] (
+    object [] (
     method 0 2 (
-      let_num 1 (num 0)
-      ∷ while (flag true) (
-          set_local 1 (plus (local 1) (num 1))
-          ∷ when (compare (local 1) Eq (local 0)) (
-              returns (times (local 1) (num 10)) ∷ []) ∷ [])
-      ∷ returns (num 7) ∷ []) ∷ []) ∷ [])
+    let_num 1 (num 0)
+    ∷ while (flag true) (
+    set_local 1 (plus (local 1) (num 1))
+    ∷ when (compare (local 1) Eq (local 0)) (
+    returns (times (local 1) (num 10)) ∷ []) ∷ [])
+    ∷ returns (num 7) ∷ []) ∷ []) ∷ [])
 
 -- S first 1000 2
 abbrev pub first_with_2 : Tx
@@ -122,10 +122,10 @@ ReturnsFromLoop = run returning [] first_with_2 ≡ returned
 -- }
 abbrev pub endless : Typed
 endless = contract (takes [] Num ∷ []) (
-  object [] (
+    object [] (
     method 0 0 (
-      while (flag true) []
-      ∷ returns (num 0) ∷ []) ∷ []) ∷ [])
+    while (flag true) []
+    ∷ returns (num 0) ∷ []) ∷ []) ∷ [])
 
 -- S spin 12
 abbrev pub spin : Tx

@@ -25,21 +25,21 @@ use Rattle.ecf_cases.specs.Words.{contract, takes, object, num_field, map_field,
 -- }
 abbrev pub ordered : Typed
 ordered = contract (takes [] Num ∷ takes [] Num ∷ takes [] Flag ∷ takes [] Num ∷ takes [] Addr ∷ takes (Num ∷ Num ∷ []) Num ∷ []) (
-  object (starting ((0, 1) ∷ []) num_field ∷ starting ((0, 2) ∷ []) num_field ∷ starting ((2, 6) ∷ []) (map_field Num Num) ∷ []) (
+    object (starting ((0, 1) ∷ []) num_field ∷ starting ((0, 2) ∷ []) num_field ∷ starting ((2, 6) ∷ []) (map_field Num Num) ∷ []) (
     method 0 0 (
-      set_at 2 (field 0) (field 1)
-      ∷ returns (num 0) ∷ [])
+    set_at 2 (field 0) (field 1)
+    ∷ returns (num 0) ∷ [])
     ∷ method 1 0 (
-      returns (minus (at 2 (field 1)) (field 0)) ∷ [])
+    returns (minus (at 2 (field 1)) (field 0)) ∷ [])
     ∷ method 2 0 (
-      returns (compare (field 0) Lt (field 1)) ∷ [])
+    returns (compare (field 0) Lt (field 1)) ∷ [])
     ∷ method 3 0 (
-      returns (calls (self_calls 4 []) 5 (field 0 ∷ field 1 ∷ [])) ∷ [])
+    returns (calls (self_calls 4 []) 5 (field 0 ∷ field 1 ∷ [])) ∷ [])
     ∷ method 4 0 (
-      returns (named 1) ∷ []) ∷ [])
-  ∷ object [] (
+    returns (named 1) ∷ []) ∷ [])
+    ∷ object [] (
     method 5 2 (
-      returns (plus (times (local 0) (num 10)) (local 1)) ∷ []) ∷ []) ∷ [])
+    returns (plus (times (local 0) (num 10)) (local 1)) ∷ []) ∷ []) ∷ [])
 
 -- x of A
 abbrev pub x : Cell

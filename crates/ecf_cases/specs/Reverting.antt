@@ -25,32 +25,32 @@ use Rattle.ecf_cases.specs.Words.{contract, takes, object, num_field, starting, 
 -- }
 abbrev pub faulty : Typed
 faulty = contract (takes [] Num ∷ takes [] Num ∷ takes [] Num ∷ takes [] Num ∷ takes [] Num ∷ takes [] Num ∷ takes [] Num ∷ takes [] Num ∷ []) (
-  object (starting ((0, 7) ∷ []) num_field ∷ []) (
+    object (starting ((0, 7) ∷ []) num_field ∷ []) (
     method 0 0 (
-      set_field 0 (num 0)
-      ∷ returns (plus (num 340282366920938463463374607431768211455) (num 1)) ∷ [])
+    set_field 0 (num 0)
+    ∷ returns (plus (num 340282366920938463463374607431768211455) (num 1)) ∷ [])
     ∷ method 1 0 (
-      set_field 0 (num 0)
-      ∷ returns (minus (num 1) (num 2)) ∷ [])
+    set_field 0 (num 0)
+    ∷ returns (minus (num 1) (num 2)) ∷ [])
     ∷ method 2 0 (
-      set_field 0 (num 0)
-      ∷ returns (times (num 18446744073709551616) (num 18446744073709551616)) ∷ [])
+    set_field 0 (num 0)
+    ∷ returns (times (num 18446744073709551616) (num 18446744073709551616)) ∷ [])
     ∷ method 3 0 (
-      set_field 0 (num 0)
-      ∷ returns (over (num 1) (num 0)) ∷ [])
+    set_field 0 (num 0)
+    ∷ returns (over (num 1) (num 0)) ∷ [])
     ∷ method 4 0 (
-      set_field 0 (num 0)
-      ∷ returns (modulo (num 1) (num 0)) ∷ [])
+    set_field 0 (num 0)
+    ∷ returns (modulo (num 1) (num 0)) ∷ [])
     ∷ method 5 0 (
-      set_field 0 (num 0)
-      ∷ call_only (named 1) 0 []
-      ∷ returns (num 0) ∷ [])
+    set_field 0 (num 0)
+    ∷ call_only (named 1) 0 []
+    ∷ returns (num 0) ∷ [])
     ∷ method 6 0 (
-      set_field 0 (num 0)
-      ∷ reverts (plus (field 0) (num 3)) ∷ []) ∷ [])
-  ∷ object [] (
+    set_field 0 (num 0)
+    ∷ reverts (plus (field 0) (num 3)) ∷ []) ∷ [])
+    ∷ object [] (
     method 7 0 (
-      returns (num 0) ∷ []) ∷ []) ∷ [])
+    returns (num 0) ∷ []) ∷ []) ∷ [])
 
 -- x of M
 abbrev pub x : Cell

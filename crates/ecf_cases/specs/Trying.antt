@@ -25,17 +25,17 @@ use Rattle.ecf_cases.specs.Words.{contract, takes, object, num_field, starting, 
 -- }
 abbrev pub catches : Typed
 catches = contract (takes [] Num ∷ takes [] Num ∷ []) (
-  object (num_field ∷ []) (
+    object (num_field ∷ []) (
     method 0 1 (
-      set_field 0 (num 1)
-      ∷ let_try 0 (named 1) 1 []
-      ∷ when (local 0) (
-          set_field 0 (num 5) ∷ [])
-      ∷ returns (field 0) ∷ []) ∷ [])
-  ∷ object (num_field ∷ []) (
+    set_field 0 (num 1)
+    ∷ let_try 0 (named 1) 1 []
+    ∷ when (local 0) (
+    set_field 0 (num 5) ∷ [])
+    ∷ returns (field 0) ∷ []) ∷ [])
+    ∷ object (num_field ∷ []) (
     method 1 0 (
-      set_field 0 (num 7)
-      ∷ reverts (num 3) ∷ []) ∷ []) ∷ [])
+    set_field 0 (num 7)
+    ∷ reverts (num 3) ∷ []) ∷ []) ∷ [])
 
 -- x of A
 abbrev pub x : Cell
@@ -100,19 +100,19 @@ NotCaught = run catches [] go_with_20 ≡ ran_out
 -- }
 abbrev pub catches_callback : Typed
 catches_callback = contract (takes [] Num ∷ takes [] Num ∷ takes [] Num ∷ []) (
-  object (num_field ∷ []) (
+    object (num_field ∷ []) (
     method 0 1 (
-      set_field 0 (num 1)
-      ∷ let_try 0 (named 1) 2 []
-      ∷ set_field 0 (num 2)
-      ∷ returns (field 0) ∷ [])
+    set_field 0 (num 1)
+    ∷ let_try 0 (named 1) 2 []
+    ∷ set_field 0 (num 2)
+    ∷ returns (field 0) ∷ [])
     ∷ method 1 0 (
-      set_field 0 (plus (field 0) (num 1))
-      ∷ returns (num 0) ∷ []) ∷ [])
-  ∷ object [] (
+    set_field 0 (plus (field 0) (num 1))
+    ∷ returns (num 0) ∷ []) ∷ [])
+    ∷ object [] (
     method 2 0 (
-      call_only (named 0) 1 []
-      ∷ reverts (num 1) ∷ []) ∷ []) ∷ [])
+    call_only (named 0) 1 []
+    ∷ reverts (num 1) ∷ []) ∷ []) ∷ [])
 
 -- what the callee called is undone with it
 abbrev pub caught_with_callback : Ran
@@ -137,11 +137,11 @@ CaughtWithCallback = run catches_callback [] go ≡ caught_with_callback
 -- object B { }
 abbrev pub tries_missing : Typed
 tries_missing = contract (takes [] Flag ∷ []) (
-  object [] (
+    object [] (
     method 0 1 (
-      let_try 0 (named 1) 0 []
-      ∷ returns (local 0) ∷ []) ∷ [])
-  ∷ object [] [] ∷ [])
+    let_try 0 (named 1) 0 []
+    ∷ returns (local 0) ∷ []) ∷ [])
+    ∷ object [] [] ∷ [])
 
 -- a missing method is caught, and opens no invocation
 abbrev pub caught_missing : Ran
@@ -172,16 +172,16 @@ CaughtMissing = run tries_missing [] go ≡ caught_missing
 -- }
 abbrev pub succeeds : Typed
 succeeds = contract (takes [] Num ∷ takes (Num ∷ []) Num ∷ []) (
-  object (num_field ∷ []) (
+    object (num_field ∷ []) (
     method 0 1 (
-      let_try 0 (named 1) 1 (num 4 ∷ [])
-      ∷ when (local 0) (
-          set_field 0 (num 5) ∷ [])
-      ∷ returns (field 0) ∷ []) ∷ [])
-  ∷ object (num_field ∷ []) (
+    let_try 0 (named 1) 1 (num 4 ∷ [])
+    ∷ when (local 0) (
+    set_field 0 (num 5) ∷ [])
+    ∷ returns (field 0) ∷ []) ∷ [])
+    ∷ object (num_field ∷ []) (
     method 1 1 (
-      set_field 0 (local 0)
-      ∷ returns (num 9) ∷ []) ∷ []) ∷ [])
+    set_field 0 (local 0)
+    ∷ returns (num 9) ∷ []) ∷ []) ∷ [])
 
 -- where the callee answers, the flag is 1, and its steps and writes stay
 abbrev pub answered : Ran
@@ -218,19 +218,19 @@ Answers = run succeeds [] go ≡ answered
 -- object C { }
 abbrev pub reads_again : Typed
 reads_again = contract (takes [] Num ∷ takes [] Num ∷ takes [] Num ∷ []) (
-  object (starting ((0, 2) ∷ []) num_field ∷ []) (
+    object (starting ((0, 2) ∷ []) num_field ∷ []) (
     method 0 1 (
-      set_field 0 (plus (field 0) (num 1))
-      ∷ let_try 0 (named 1) 1 []
-      ∷ call_only (named 1) 2 []
-      ∷ returns (field 0) ∷ []) ∷ [])
-  ∷ object (starting ((0, 5) ∷ []) num_field ∷ starting ((0, 8) ∷ []) num_field ∷ []) (
+    set_field 0 (plus (field 0) (num 1))
+    ∷ let_try 0 (named 1) 1 []
+    ∷ call_only (named 1) 2 []
+    ∷ returns (field 0) ∷ []) ∷ [])
+    ∷ object (starting ((0, 5) ∷ []) num_field ∷ starting ((0, 8) ∷ []) num_field ∷ []) (
     method 1 0 (
-      set_field 0 (plus (field 0) (num 1))
-      ∷ reverts (field 1) ∷ [])
+    set_field 0 (plus (field 0) (num 1))
+    ∷ reverts (field 1) ∷ [])
     ∷ method 2 0 (
-      returns (field 0) ∷ []) ∷ [])
-  ∷ object [] [] ∷ [])
+    returns (field 0) ∷ []) ∷ [])
+    ∷ object [] [] ∷ [])
 
 -- z of B
 abbrev pub z : Cell
@@ -279,27 +279,27 @@ ReadsStay = run reads_again (genesis reads_again) go ≡ read_again
 -- }
 abbrev pub nests : Typed
 nests = contract (takes [] Num ∷ takes (Num ∷ []) Num ∷ takes [] Num ∷ takes [] Num ∷ []) (
-  object (num_field ∷ []) (
+    object (num_field ∷ []) (
     method 0 1 (
-      let_try 0 (named 1) 2 []
-      ∷ when (local 0) (
-          returns (field 0) ∷ [])
-      ∷ returns (num 100) ∷ [])
+    let_try 0 (named 1) 2 []
+    ∷ when (local 0) (
+    returns (field 0) ∷ [])
+    ∷ returns (num 100) ∷ [])
     ∷ method 1 1 (
-      set_field 0 (plus (field 0) (local 0))
-      ∷ returns (field 0) ∷ []) ∷ [])
-  ∷ object (num_field ∷ []) (
+    set_field 0 (plus (field 0) (local 0))
+    ∷ returns (field 0) ∷ []) ∷ [])
+    ∷ object (num_field ∷ []) (
     method 2 1 (
-      call_only (named 0) 1 (num 1 ∷ [])
-      ∷ let_try 0 (named 2) 3 []
-      ∷ when (local 0) (
-          returns (num 0) ∷ [])
-      ∷ set_field 0 (num 4)
-      ∷ returns (num 1) ∷ []) ∷ [])
-  ∷ object [] (
+    call_only (named 0) 1 (num 1 ∷ [])
+    ∷ let_try 0 (named 2) 3 []
+    ∷ when (local 0) (
+    returns (num 0) ∷ [])
+    ∷ set_field 0 (num 4)
+    ∷ returns (num 1) ∷ []) ∷ [])
+    ∷ object [] (
     method 3 0 (
-      call_only (named 0) 1 (num 10 ∷ [])
-      ∷ returns (over (num 1) (num 0)) ∷ []) ∷ []) ∷ [])
+    call_only (named 0) 1 (num 10 ∷ [])
+    ∷ returns (over (num 1) (num 0)) ∷ []) ∷ []) ∷ [])
 
 -- A go 300
 abbrev pub go_with_300 : Tx
@@ -338,13 +338,13 @@ InnermostCatches = run nests [] go_with_300 ≡ inner_caught
 -- }
 abbrev pub tries_in_arguments : Typed
 tries_in_arguments = contract (takes [] Num ∷ takes (Num ∷ []) Num ∷ []) (
-  object (starting ((0, 3) ∷ []) num_field ∷ []) (
+    object (starting ((0, 3) ∷ []) num_field ∷ []) (
     method 0 1 (
-      let_try 0 (named 1) 1 (over (field 0) (num 0) ∷ [])
-      ∷ returns (num 1) ∷ []) ∷ [])
-  ∷ object [] (
+    let_try 0 (named 1) 1 (over (field 0) (num 0) ∷ [])
+    ∷ returns (num 1) ∷ []) ∷ [])
+    ∷ object [] (
     method 1 1 (
-      returns (local 0) ∷ []) ∷ []) ∷ [])
+    returns (local 0) ∷ []) ∷ []) ∷ [])
 
 -- a revert in an argument of the `try` is not caught by it
 abbrev pub argument_failed : Ran

@@ -1,5 +1,5 @@
 -- Small words for typed contracts, and for what their runs leave.
-use Rattle.std.specs.Prelude.{ℕ, Bool, true, false, List, [], ◌∷◌, map, Option, Some, None}
+use Rattle.std.specs.Prelude.{ℕ, Bool, true, false, List, [], ◌∷◌, map, Option, None}
 use Rattle.ecf_lang.specs.declared.cell.Cell.{Cell}
 use Rattle.ecf_lang.specs.declared.tree.Op.{Op}
 use Rattle.ecf_lang.specs.declared.tree.Op.TheVariants.{Add, Sub, Mul, Div, Rem}
@@ -15,7 +15,6 @@ use Rattle.ecf_lang.specs.declared.typed.TypedField.{TypedField}
 use Rattle.ecf_lang.specs.declared.typed.TypedMethod.{TypedMethod}
 use Rattle.ecf_lang.specs.declared.typed.TypedExpr.{TypedExpr}
 use Rattle.ecf_lang.specs.declared.typed.TypedExpr.TheVariants as expr
-use Rattle.ecf_lang.specs.declared.typed.TypedCall.{TypedCall}
 use Rattle.ecf_lang.specs.declared.typed.TypedCall.TheVariants as call
 use Rattle.ecf_lang.specs.declared.typed.TypedStmt.{TypedStmt}
 use Rattle.ecf_lang.specs.declared.typed.TypedStmt.TheVariants as stmt

@@ -5,10 +5,12 @@ ghost use Rattle.ecf_cases.specs.Arithmetic.{Chains, Groups, Multiplies, Mixes};
 ghost use Rattle.ecf_cases.specs.Bank.{PaysFirst, ClearsFirst};
 ghost use Rattle.ecf_cases.specs.Callback.{ComesFirst, CycleOfThree, Apart, RevertsAtLast, WritesTheSame};
 ghost use Rattle.ecf_cases.specs.Calling.{StaysInside, CallsItself, CallsAnother, AnswersInOrder};
-ghost use Rattle.ecf_cases.specs.Charging.{UnpaidMapRead, UnpaidMapWrite, UnpaidSum, UnpaidCallTest, UnpaidCallee, UnpaidTryTest, UnpaidInternalTest, UnpaidRevert, PaidTest};
+ghost use Rattle.ecf_cases.specs.Charging.{ChargedBeforeLet, ChargedBeforeSet, ChargedBeforeSetMap, ChargedBeforeIf, ChargedBeforeWhile, ChargedBeforeReturn, ChargedBeforeRevert, ChargedBeforeDo, ChargedBeforeTry, ChargedBeforeSetLocal, ValueBeforeWriteCharge, WriteCharge, IndexAndValueFirst, MapWriteCharge, ConditionBeforeTurn, IndexBeforeReadCharge, MapReadCharge, PartsBeforeSum, PartsBeforeProduct, SidesBeforeComparison, InnerBeforeNot, AndCharge, OrCharge, ArgumentsBeforeInternalCharge, ArgumentsBeforeCallCharge, ArgumentsBeforeTryCharge, OperatorCharge, InternalTestCharge, TestCharge, TryTestCharge, PaidTest};
 ghost use Rattle.ecf_cases.specs.Counter.{Counts, UsesAllFuel, WantsFuelForRead, WantsFuelForWrite, CountsTwice, UndoesBoth};
-ghost use Rattle.ecf_cases.specs.Depth.{TooDeep, NotPaid};
+ghost use Rattle.ecf_cases.specs.Depth.{TooDeep, NotPaid, TooDeepOutside, NotPaidOutside, CatchesDepth};
+ghost use Rattle.ecf_cases.specs.Limits.{DepthBeforeAll, DepthBeforeMethod, InvocationsBeforeMethod, MethodAtLast, InternalMethod};
 ghost use Rattle.ecf_cases.specs.Logic.{BothRead, RightSkipped, OtherRead, OtherSkipped, AllThree, NoneOfThree, FirstArm, SecondArm, LastBlock, EndsSilently, NoElse, OddBoth, OddEither, OddNot};
+ghost use Rattle.ecf_cases.specs.Lonely.{FirstOfBank, SecondOfBank, FirstOfThief, SecondOfThief, UnclearedFirst, UnclearedSecond, NoAnswerLeft, NoFuelLeft, HearsInOrder, HearsFlag, UndoneAlone};
 ghost use Rattle.ecf_cases.specs.Loop.{SumsSquares, NoTurn, ReturnsFromLoop, Spins};
 ghost use Rattle.ecf_cases.specs.Order.{IndexFirst, LeftFirst, LeftSideFirst, TargetFirst};
 ghost use Rattle.ecf_cases.specs.Reverting.{SumOverflows, DifferenceOverflows, ProductOverflows, DividesByZero, RemainderByZero, WantsMethod, RevertsItself};
@@ -57,14 +59,36 @@ pub fn order()
 
 /// Fuel that ends between a charge and its effect.
 pub fn charging()
-    ensures before_map_read { UnpaidMapRead }
-    ensures before_map_write { UnpaidMapWrite }
-    ensures before_operator { UnpaidSum }
-    ensures before_tests { UnpaidCallTest }
-    ensures before_callee { UnpaidCallee }
-    ensures before_tests_of_try { UnpaidTryTest }
-    ensures before_internal_test { UnpaidInternalTest }
-    ensures before_revert { UnpaidRevert }
+    ensures before_let { ChargedBeforeLet }
+    ensures before_assignment { ChargedBeforeSet }
+    ensures before_map_assignment { ChargedBeforeSetMap }
+    ensures before_if { ChargedBeforeIf }
+    ensures before_while { ChargedBeforeWhile }
+    ensures before_return { ChargedBeforeReturn }
+    ensures before_revert { ChargedBeforeRevert }
+    ensures before_call_statement { ChargedBeforeDo }
+    ensures before_try { ChargedBeforeTry }
+    ensures before_local_assignment { ChargedBeforeSetLocal }
+    ensures value_before_charge_of_write { ValueBeforeWriteCharge }
+    ensures write_charge { WriteCharge }
+    ensures index_and_value_before_charge { IndexAndValueFirst }
+    ensures map_write_charge { MapWriteCharge }
+    ensures condition_before_turn { ConditionBeforeTurn }
+    ensures index_before_charge_of_read { IndexBeforeReadCharge }
+    ensures map_read_charge { MapReadCharge }
+    ensures parts_before_charge_of_sum { PartsBeforeSum }
+    ensures parts_before_charge_of_product { PartsBeforeProduct }
+    ensures sides_before_charge_of_comparison { SidesBeforeComparison }
+    ensures inner_before_charge_of_not { InnerBeforeNot }
+    ensures and_charge { AndCharge }
+    ensures or_charge { OrCharge }
+    ensures arguments_before_charge_of_internal_call { ArgumentsBeforeInternalCharge }
+    ensures arguments_before_charge_of_call { ArgumentsBeforeCallCharge }
+    ensures arguments_before_charge_of_try { ArgumentsBeforeTryCharge }
+    ensures operator_charge { OperatorCharge }
+    ensures internal_test_charge { InternalTestCharge }
+    ensures test_charge { TestCharge }
+    ensures try_test_charge { TryTestCharge }
     ensures tests_once_paid { PaidTest }
 {}
 
@@ -83,6 +107,9 @@ pub fn reverting()
 pub fn depth()
     ensures too_deep { TooDeep }
     ensures not_paid { NotPaid }
+    ensures too_deep_outside { TooDeepOutside }
+    ensures not_paid_outside { NotPaidOutside }
+    ensures catches_depth { CatchesDepth }
 {}
 
 /// Calls whose revert is caught.
@@ -129,4 +156,28 @@ pub fn arithmetic()
     ensures keeps_brackets { Groups }
     ensures multiplies_in_order { Multiplies }
     ensures multiplies_first { Mixes }
+{}
+
+/// The tests of a call, in their order.
+pub fn limits()
+    ensures depth_before_all { DepthBeforeAll }
+    ensures depth_before_method { DepthBeforeMethod }
+    ensures invocations_before_method { InvocationsBeforeMethod }
+    ensures method_at_last { MethodAtLast }
+    ensures internal_method { InternalMethod }
+{}
+
+/// Invocations of whole runs, each run alone.
+pub fn alone()
+    ensures first_of_bank { FirstOfBank }
+    ensures second_of_bank { SecondOfBank }
+    ensures first_of_thief { FirstOfThief }
+    ensures second_of_thief { SecondOfThief }
+    ensures outer_alone { UnclearedFirst }
+    ensures inner_alone { UnclearedSecond }
+    ensures no_answer_left { NoAnswerLeft }
+    ensures no_fuel_left { NoFuelLeft }
+    ensures hears_in_order { HearsInOrder }
+    ensures hears_flag { HearsFlag }
+    ensures undone_alone { UndoneAlone }
 {}
