@@ -11,6 +11,7 @@ pub mod LimitsProof
 pub mod LogicProof
 pub mod LonelyProof
 pub mod LoopProof
+pub mod OperatorsProof
 pub mod OrderProof
 pub mod RevertingProof
 pub mod TryingProof

@@ -1,10 +1,11 @@
 -- A bank whose withdrawal calls its receiver, who calls back.
-use Rattle.std.specs.Prelude.{◌≡◌, ℕ, [], ◌∷◌, Some}
+use Rattle.std.specs.Prelude.{◌≡◌, ℕ, [], ◌∷◌, List, Some}
 use Rattle.ecf_lang.specs.declared.cell.Cell.{Cell}
 use Rattle.ecf_lang.specs.declared.tree.Op.TheVariants.{Lt}
 use Rattle.ecf_lang.specs.declared.tree.Ty.TheVariants.{Num, Addr}
 use Rattle.ecf_lang.specs.declared.run.Outcome.TheVariants.{Answer}
 use Rattle.ecf_lang.specs.declared.typed.Typed.{Typed}
+use Rattle.ecf_lang.specs.declared.typed.TypedStmt.{TypedStmt}
 use Rattle.ecf_lang.specs.declared.tx.Tx.{Tx}
 use Rattle.ecf_lang.specs.Genesis.{genesis}
 use Rattle.ecf_lang.specs.Meaning.{run, Ran}
@@ -33,22 +34,31 @@ use Rattle.ecf_cases.specs.Words.{contract, takes, object, num_field, map_field,
 --     return 0;
 --   }
 -- }
-abbrev pub pays_first : Typed
-pays_first = contract (takes (Addr ∷ []) Num ∷ takes (Num ∷ []) Num ∷ []) (
-    object (starting ((1, 5) ∷ []) (map_field Addr Num) ∷ starting ((0, 20) ∷ []) num_field ∷ []) (
-    method 0 2 (
+
+-- withdraw of Bank
+abbrev pub pays_first_withdraw : List TypedStmt
+pays_first_withdraw =
     let_num 1 (at 0 (local 0))
     ∷ set_field 1 (minus (field 1) (local 1))
     ∷ call_only (local 0) 1 (local 1 ∷ [])
     ∷ set_at 0 (local 0) (num 0)
-    ∷ returns (local 1) ∷ []) ∷ [])
-    ∷ object (num_field ∷ num_field ∷ []) (
-    method 1 1 (
+    ∷ returns (local 1)
+    ∷ []
+
+-- receive of Thief
+abbrev pub pays_first_receive : List TypedStmt
+pays_first_receive =
     set_field 0 (plus (field 0) (local 0))
-    ∷ when (compare (field 1) Lt (num 1)) (
-    set_field 1 (plus (field 1) (num 1))
-    ∷ call_only (named 0) 0 (here ∷ []) ∷ [])
-    ∷ returns (num 0) ∷ []) ∷ []) ∷ [])
+    ∷ when (compare (field 1) Lt (num 1)) (set_field 1 (plus (field 1) (num 1)) ∷ call_only (named 0) 0 (here ∷ []) ∷ [])
+    ∷ returns (num 0)
+    ∷ []
+
+-- the contract
+abbrev pub pays_first : Typed
+pays_first = contract
+    (takes (Addr ∷ []) Num ∷ takes (Num ∷ []) Num ∷ [])
+    (object (starting ((1, 5) ∷ []) (map_field Addr Num) ∷ starting ((0, 20) ∷ []) num_field ∷ []) (method 0 2 pays_first_withdraw ∷ [])
+    ∷ object (num_field ∷ num_field ∷ []) (method 1 1 pays_first_receive ∷ []) ∷ [])
 
 -- owed of Bank, by its key
 abbrev pub owed : ℕ → Cell
@@ -89,22 +99,31 @@ tries = cell 1 1 0
 --     return 0;
 --   }
 -- }
-abbrev pub clears_first : Typed
-clears_first = contract (takes (Addr ∷ []) Num ∷ takes (Num ∷ []) Num ∷ []) (
-    object (starting ((1, 5) ∷ []) (map_field Addr Num) ∷ starting ((0, 20) ∷ []) num_field ∷ []) (
-    method 0 2 (
+
+-- withdraw of Bank
+abbrev pub clears_first_withdraw : List TypedStmt
+clears_first_withdraw =
     let_num 1 (at 0 (local 0))
     ∷ set_at 0 (local 0) (num 0)
     ∷ set_field 1 (minus (field 1) (local 1))
     ∷ call_only (local 0) 1 (local 1 ∷ [])
-    ∷ returns (local 1) ∷ []) ∷ [])
-    ∷ object (num_field ∷ num_field ∷ []) (
-    method 1 1 (
+    ∷ returns (local 1)
+    ∷ []
+
+-- receive of Thief
+abbrev pub clears_first_receive : List TypedStmt
+clears_first_receive =
     set_field 0 (plus (field 0) (local 0))
-    ∷ when (compare (field 1) Lt (num 1)) (
-    set_field 1 (plus (field 1) (num 1))
-    ∷ call_only (named 0) 0 (here ∷ []) ∷ [])
-    ∷ returns (num 0) ∷ []) ∷ []) ∷ [])
+    ∷ when (compare (field 1) Lt (num 1)) (set_field 1 (plus (field 1) (num 1)) ∷ call_only (named 0) 0 (here ∷ []) ∷ [])
+    ∷ returns (num 0)
+    ∷ []
+
+-- the contract
+abbrev pub clears_first : Typed
+clears_first = contract
+    (takes (Addr ∷ []) Num ∷ takes (Num ∷ []) Num ∷ [])
+    (object (starting ((1, 5) ∷ []) (map_field Addr Num) ∷ starting ((0, 20) ∷ []) num_field ∷ []) (method 0 2 clears_first_withdraw ∷ [])
+    ∷ object (num_field ∷ num_field ∷ []) (method 1 1 clears_first_receive ∷ []) ∷ [])
 
 -- Bank withdraw 1000 Thief
 abbrev pub withdraw : Tx

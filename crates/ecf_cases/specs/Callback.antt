@@ -1,10 +1,11 @@
 -- Calls that come back to their caller while it waits.
-use Rattle.std.specs.Prelude.{◌≡◌, [], ◌∷◌, Some, None}
+use Rattle.std.specs.Prelude.{◌≡◌, [], ◌∷◌, List, Some, None}
 use Rattle.ecf_lang.specs.declared.cell.Cell.{Cell}
 use Rattle.ecf_lang.specs.declared.tree.Ty.TheVariants.{Num}
 use Rattle.ecf_lang.specs.declared.run.Cause.TheVariants.{User}
 use Rattle.ecf_lang.specs.declared.run.Outcome.TheVariants.{Answer, Reverted}
 use Rattle.ecf_lang.specs.declared.typed.Typed.{Typed}
+use Rattle.ecf_lang.specs.declared.typed.TypedStmt.{TypedStmt}
 use Rattle.ecf_lang.specs.declared.tx.Tx.{Tx}
 use Rattle.ecf_lang.specs.Meaning.{run, Ran}
 use Rattle.ecf_cases.specs.Words.{contract, takes, object, num_field, method, num, field, named, plus, set_field, returns, reverts, call_only, transaction, calling, cell, reads, writes, invoked}
@@ -17,20 +18,29 @@ use Rattle.ecf_cases.specs.Words.{contract, takes, object, num_field, method, nu
 -- object B {
 --   method back(): num { call A.set(); return 0; }
 -- }
-abbrev pub waits : Typed
-waits = contract (takes [] Num ∷ takes [] Num ∷ takes [] Num ∷ []) (
-    object (num_field ∷ []) (
-    method 0 0 (
+
+-- go of A
+abbrev pub waits_go : List TypedStmt
+waits_go =
     call_only (named 1) 2 []
     ∷ set_field 0 (plus (field 0) (num 1))
-    ∷ returns (field 0) ∷ [])
-    ∷ method 1 0 (
-    set_field 0 (num 10)
-    ∷ returns (num 0) ∷ []) ∷ [])
-    ∷ object [] (
-    method 2 0 (
-    call_only (named 0) 1 []
-    ∷ returns (num 0) ∷ []) ∷ []) ∷ [])
+    ∷ returns (field 0)
+    ∷ []
+
+-- set of A
+abbrev pub waits_set : List TypedStmt
+waits_set = set_field 0 (num 10) ∷ returns (num 0) ∷ []
+
+-- back of B
+abbrev pub waits_back : List TypedStmt
+waits_back = call_only (named 0) 1 [] ∷ returns (num 0) ∷ []
+
+-- the contract
+abbrev pub waits : Typed
+waits = contract
+    (takes [] Num ∷ takes [] Num ∷ takes [] Num ∷ [])
+    (object (num_field ∷ []) (method 0 0 waits_go ∷ method 1 0 waits_set ∷ [])
+    ∷ object [] (method 2 0 waits_back ∷ []) ∷ [])
 
 -- x of A
 abbrev pub x : Cell
@@ -70,27 +80,38 @@ ComesFirst = run waits [] go ≡ came_first
 --   method first(): num { call A.one(); return 0; }
 --   method second(): num { call A.two(); return 0; }
 -- }
-abbrev pub cycles : Typed
-cycles = contract (takes [] Num ∷ takes [] Num ∷ takes [] Num ∷ takes [] Num ∷ takes [] Num ∷ []) (
-    object (num_field ∷ num_field ∷ num_field ∷ []) (
-    method 0 0 (
+
+-- go of A
+abbrev pub cycles_go : List TypedStmt
+cycles_go =
     set_field 0 (num 1)
     ∷ call_only (named 1) 3 []
     ∷ call_only (named 1) 4 []
-    ∷ returns (field 2) ∷ [])
-    ∷ method 1 0 (
-    set_field 1 (field 0)
-    ∷ returns (num 0) ∷ [])
-    ∷ method 2 0 (
-    set_field 2 (field 1)
-    ∷ returns (num 0) ∷ []) ∷ [])
-    ∷ object [] (
-    method 3 0 (
-    call_only (named 0) 1 []
-    ∷ returns (num 0) ∷ [])
-    ∷ method 4 0 (
-    call_only (named 0) 2 []
-    ∷ returns (num 0) ∷ []) ∷ []) ∷ [])
+    ∷ returns (field 2)
+    ∷ []
+
+-- one of A
+abbrev pub cycles_one : List TypedStmt
+cycles_one = set_field 1 (field 0) ∷ returns (num 0) ∷ []
+
+-- two of A
+abbrev pub cycles_two : List TypedStmt
+cycles_two = set_field 2 (field 1) ∷ returns (num 0) ∷ []
+
+-- first of B
+abbrev pub cycles_first : List TypedStmt
+cycles_first = call_only (named 0) 1 [] ∷ returns (num 0) ∷ []
+
+-- second of B
+abbrev pub cycles_second : List TypedStmt
+cycles_second = call_only (named 0) 2 [] ∷ returns (num 0) ∷ []
+
+-- the contract
+abbrev pub cycles : Typed
+cycles = contract
+    (takes [] Num ∷ takes [] Num ∷ takes [] Num ∷ takes [] Num ∷ takes [] Num ∷ [])
+    (object (num_field ∷ num_field ∷ num_field ∷ []) (method 0 0 cycles_go ∷ method 1 0 cycles_one ∷ method 2 0 cycles_two ∷ [])
+    ∷ object [] (method 3 0 cycles_first ∷ method 4 0 cycles_second ∷ []) ∷ [])
 
 -- y of A
 abbrev pub y : Cell
@@ -132,21 +153,30 @@ CycleOfThree = run cycles [] go ≡ cycled
 -- object B {
 --   method back(): num { call A.set(); return 0; }
 -- }
-abbrev pub splits : Typed
-splits = contract (takes [] Num ∷ takes [] Num ∷ takes [] Num ∷ []) (
-    object (num_field ∷ num_field ∷ num_field ∷ []) (
-    method 0 0 (
+
+-- go of A
+abbrev pub splits_go : List TypedStmt
+splits_go =
     set_field 0 (num 1)
     ∷ call_only (named 1) 2 []
     ∷ set_field 1 (num 2)
-    ∷ returns (num 0) ∷ [])
-    ∷ method 1 0 (
-    set_field 2 (num 3)
-    ∷ returns (num 0) ∷ []) ∷ [])
-    ∷ object [] (
-    method 2 0 (
-    call_only (named 0) 1 []
-    ∷ returns (num 0) ∷ []) ∷ []) ∷ [])
+    ∷ returns (num 0)
+    ∷ []
+
+-- set of A
+abbrev pub splits_set : List TypedStmt
+splits_set = set_field 2 (num 3) ∷ returns (num 0) ∷ []
+
+-- back of B
+abbrev pub splits_back : List TypedStmt
+splits_back = call_only (named 0) 1 [] ∷ returns (num 0) ∷ []
+
+-- the contract
+abbrev pub splits : Typed
+splits = contract
+    (takes [] Num ∷ takes [] Num ∷ takes [] Num ∷ [])
+    (object (num_field ∷ num_field ∷ num_field ∷ []) (method 0 0 splits_go ∷ method 1 0 splits_set ∷ [])
+    ∷ object [] (method 2 0 splits_back ∷ []) ∷ [])
 
 -- a of A
 abbrev pub a : Cell
@@ -187,21 +217,30 @@ Apart = run splits [] go ≡ split
 -- object B {
 --   method back(): num { call A.set(); return 0; }
 -- }
-abbrev pub fails : Typed
-fails = contract (takes [] Num ∷ takes [] Num ∷ takes [] Num ∷ []) (
-    object (num_field ∷ []) (
-    method 0 0 (
+
+-- go of A
+abbrev pub fails_go : List TypedStmt
+fails_go =
     set_field 0 (num 1)
     ∷ call_only (named 1) 2 []
     ∷ set_field 0 (num 2)
-    ∷ reverts (num 9) ∷ [])
-    ∷ method 1 0 (
-    set_field 0 (plus (field 0) (num 1))
-    ∷ returns (num 0) ∷ []) ∷ [])
-    ∷ object [] (
-    method 2 0 (
-    call_only (named 0) 1 []
-    ∷ returns (num 0) ∷ []) ∷ []) ∷ [])
+    ∷ reverts (num 9)
+    ∷ []
+
+-- set of A
+abbrev pub fails_set : List TypedStmt
+fails_set = set_field 0 (plus (field 0) (num 1)) ∷ returns (num 0) ∷ []
+
+-- back of B
+abbrev pub fails_back : List TypedStmt
+fails_back = call_only (named 0) 1 [] ∷ returns (num 0) ∷ []
+
+-- the contract
+abbrev pub fails : Typed
+fails = contract
+    (takes [] Num ∷ takes [] Num ∷ takes [] Num ∷ [])
+    (object (num_field ∷ []) (method 0 0 fails_go ∷ method 1 0 fails_set ∷ [])
+    ∷ object [] (method 2 0 fails_back ∷ []) ∷ [])
 
 -- the caller reverts in the end: the steps up to there stay on record, and the store as it was
 abbrev pub failed : Ran
@@ -230,21 +269,30 @@ RevertsAtLast = run fails [] go ≡ failed
 -- object B {
 --   method back(): num { call A.set(); return 0; }
 -- }
-abbrev pub repeats : Typed
-repeats = contract (takes [] Num ∷ takes [] Num ∷ takes [] Num ∷ []) (
-    object (num_field ∷ []) (
-    method 0 0 (
+
+-- go of A
+abbrev pub repeats_go : List TypedStmt
+repeats_go =
     set_field 0 (num 1)
     ∷ call_only (named 1) 2 []
     ∷ set_field 0 (num 1)
-    ∷ returns (num 0) ∷ [])
-    ∷ method 1 0 (
-    set_field 0 (num 1)
-    ∷ returns (num 0) ∷ []) ∷ [])
-    ∷ object [] (
-    method 2 0 (
-    call_only (named 0) 1 []
-    ∷ returns (num 0) ∷ []) ∷ []) ∷ [])
+    ∷ returns (num 0)
+    ∷ []
+
+-- set of A
+abbrev pub repeats_set : List TypedStmt
+repeats_set = set_field 0 (num 1) ∷ returns (num 0) ∷ []
+
+-- back of B
+abbrev pub repeats_back : List TypedStmt
+repeats_back = call_only (named 0) 1 [] ∷ returns (num 0) ∷ []
+
+-- the contract
+abbrev pub repeats : Typed
+repeats = contract
+    (takes [] Num ∷ takes [] Num ∷ takes [] Num ∷ [])
+    (object (num_field ∷ []) (method 0 0 repeats_go ∷ method 1 0 repeats_set ∷ [])
+    ∷ object [] (method 2 0 repeats_back ∷ []) ∷ [])
 
 -- a write of an equal number is a step like any other
 abbrev pub repeated : Ran

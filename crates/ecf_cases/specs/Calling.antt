@@ -1,9 +1,10 @@
 -- Calls of the own object, and of another.
-use Rattle.std.specs.Prelude.{◌≡◌, ℕ, [], ◌∷◌, Some}
+use Rattle.std.specs.Prelude.{◌≡◌, ℕ, [], ◌∷◌, List, Some}
 use Rattle.ecf_lang.specs.declared.cell.Cell.{Cell}
 use Rattle.ecf_lang.specs.declared.tree.Ty.TheVariants.{Num}
 use Rattle.ecf_lang.specs.declared.run.Outcome.TheVariants.{Answer}
 use Rattle.ecf_lang.specs.declared.typed.Typed.{Typed}
+use Rattle.ecf_lang.specs.declared.typed.TypedStmt.{TypedStmt}
 use Rattle.ecf_lang.specs.declared.tx.Tx.{Tx}
 use Rattle.ecf_lang.specs.Meaning.{run, Ran}
 use Rattle.ecf_cases.specs.Words.{contract, takes, object, num_field, map_field, method, num, here, local, field, named, plus, times, calls, self_calls, let_num, set_field, set_at, returns, call_only, self_only, transaction, calling, cell, reads, writes, invoked}
@@ -14,22 +15,34 @@ use Rattle.ecf_cases.specs.Words.{contract, takes, object, num_field, map_field,
 --   method own(): num { x = 1; self.inner(); x = x + 1; return x; }
 --   method out(): num { x = 1; call here.inner(); x = x + 1; return x; }
 -- }
-abbrev pub self_or_here : Typed
-self_or_here = contract (takes [] Num ∷ takes [] Num ∷ takes [] Num ∷ []) (
-    object (num_field ∷ []) (
-    method 0 0 (
-    set_field 0 (plus (field 0) (num 1))
-    ∷ returns (field 0) ∷ [])
-    ∷ method 1 0 (
+
+-- inner of A
+abbrev pub self_or_here_inner : List TypedStmt
+self_or_here_inner = set_field 0 (plus (field 0) (num 1)) ∷ returns (field 0) ∷ []
+
+-- own of A
+abbrev pub self_or_here_own : List TypedStmt
+self_or_here_own =
     set_field 0 (num 1)
     ∷ self_only 0 []
     ∷ set_field 0 (plus (field 0) (num 1))
-    ∷ returns (field 0) ∷ [])
-    ∷ method 2 0 (
+    ∷ returns (field 0)
+    ∷ []
+
+-- out of A
+abbrev pub self_or_here_out : List TypedStmt
+self_or_here_out =
     set_field 0 (num 1)
     ∷ call_only here 0 []
     ∷ set_field 0 (plus (field 0) (num 1))
-    ∷ returns (field 0) ∷ []) ∷ []) ∷ [])
+    ∷ returns (field 0)
+    ∷ []
+
+-- the contract
+abbrev pub self_or_here : Typed
+self_or_here = contract
+    (takes [] Num ∷ takes [] Num ∷ takes [] Num ∷ [])
+    (object (num_field ∷ []) (method 0 0 self_or_here_inner ∷ method 1 0 self_or_here_own ∷ method 2 0 self_or_here_out ∷ []) ∷ [])
 
 -- x of A
 abbrev pub x : Cell
@@ -84,16 +97,21 @@ CallsItself = run self_or_here [] out ≡ called_itself
 --   num y;
 --   method two(n: num): num { y = y + n; return y * 2; }
 -- }
+
+-- go of A
+abbrev pub other_go : List TypedStmt
+other_go = set_field 0 (calls (named 1) 1 (num 3 ∷ [])) ∷ returns (field 0) ∷ []
+
+-- two of B
+abbrev pub other_two : List TypedStmt
+other_two = set_field 0 (plus (field 0) (local 0)) ∷ returns (times (field 0) (num 2)) ∷ []
+
+-- the contract
 abbrev pub other : Typed
-other = contract (takes [] Num ∷ takes (Num ∷ []) Num ∷ []) (
-    object (num_field ∷ []) (
-    method 0 0 (
-    set_field 0 (calls (named 1) 1 (num 3 ∷ []))
-    ∷ returns (field 0) ∷ []) ∷ [])
-    ∷ object (num_field ∷ []) (
-    method 1 1 (
-    set_field 0 (plus (field 0) (local 0))
-    ∷ returns (times (field 0) (num 2)) ∷ []) ∷ []) ∷ [])
+other = contract
+    (takes [] Num ∷ takes (Num ∷ []) Num ∷ [])
+    (object (num_field ∷ []) (method 0 0 other_go ∷ [])
+    ∷ object (num_field ∷ []) (method 1 1 other_two ∷ []) ∷ [])
 
 -- y of B
 abbrev pub y : Cell
@@ -135,21 +153,31 @@ CallsAnother = run other [] go ≡ called_another
 --   num last;
 --   method next(n: num): num { last = last + n; return last; }
 -- }
-abbrev pub goes_on : Typed
-goes_on = contract (takes [] Num ∷ takes (Num ∷ []) Num ∷ takes (Num ∷ []) Num ∷ []) (
-    object (map_field Num Num ∷ []) (
-    method 0 2 (
+
+-- go of A
+abbrev pub goes_on_go : List TypedStmt
+goes_on_go =
     let_num 0 (calls (named 1) 2 (num 10 ∷ []))
     ∷ let_num 1 (calls (named 1) 2 (num 20 ∷ []))
     ∷ set_at 0 (calls (named 1) 2 (num 30 ∷ [])) (calls (named 1) 2 (num 40 ∷ []))
     ∷ call_only (named 1) 2 (plus (local 0) (local 1) ∷ [])
-    ∷ returns (self_calls 1 (num 1 ∷ [])) ∷ [])
-    ∷ method 1 1 (
-    returns (plus (local 0) (calls (named 1) 2 (num 100 ∷ []))) ∷ []) ∷ [])
-    ∷ object (num_field ∷ []) (
-    method 2 1 (
-    set_field 0 (plus (field 0) (local 0))
-    ∷ returns (field 0) ∷ []) ∷ []) ∷ [])
+    ∷ returns (self_calls 1 (num 1 ∷ []))
+    ∷ []
+
+-- more of A
+abbrev pub goes_on_more : List TypedStmt
+goes_on_more = returns (plus (local 0) (calls (named 1) 2 (num 100 ∷ []))) ∷ []
+
+-- next of B
+abbrev pub goes_on_next : List TypedStmt
+goes_on_next = set_field 0 (plus (field 0) (local 0)) ∷ returns (field 0) ∷ []
+
+-- the contract
+abbrev pub goes_on : Typed
+goes_on = contract
+    (takes [] Num ∷ takes (Num ∷ []) Num ∷ takes (Num ∷ []) Num ∷ [])
+    (object (map_field Num Num ∷ []) (method 0 2 goes_on_go ∷ method 1 1 goes_on_more ∷ [])
+    ∷ object (num_field ∷ []) (method 2 1 goes_on_next ∷ []) ∷ [])
 
 -- m of A, by its key
 abbrev pub m : ℕ → Cell

@@ -6,6 +6,7 @@ use Rattle.ecf_lang.specs.declared.tree.Ty.TheVariants.{Num, Flag}
 use Rattle.ecf_lang.specs.declared.run.Cause.TheVariants.{NoMethod}
 use Rattle.ecf_lang.specs.declared.run.Outcome.TheVariants.{Reverted, OutOfFuel}
 use Rattle.ecf_lang.specs.declared.typed.Typed.{Typed}
+use Rattle.ecf_lang.specs.declared.typed.TypedStmt.{TypedStmt}
 use Rattle.ecf_lang.specs.declared.tx.Tx.{Tx}
 use Rattle.ecf_lang.specs.Store.{Cells}
 use Rattle.ecf_lang.specs.Genesis.{genesis}
@@ -46,75 +47,140 @@ use Rattle.ecf_lang.specs.declared.run.Step.{Step}
 -- object B {
 --   method id(n: num): num { return n; }
 -- }
+
+-- keep of A
+abbrev pub dear_keep : List TypedStmt
+dear_keep = let_num 0 (field 0) ∷ returns (num 0) ∷ []
+
+-- keep_again of A
+abbrev pub dear_keep_again : List TypedStmt
+dear_keep_again = let_num 0 (num 0) ∷ set_local 0 (field 0) ∷ returns (num 0) ∷ []
+
+-- set of A
+abbrev pub dear_set : List TypedStmt
+dear_set = set_field 1 (field 0) ∷ returns (num 0) ∷ []
+
+-- set_map of A
+abbrev pub dear_set_map : List TypedStmt
+dear_set_map = set_at 3 (field 0) (field 1) ∷ returns (num 0) ∷ []
+
+-- test of A
+abbrev pub dear_test : List TypedStmt
+dear_test = when (compare (field 0) Eq (num 0)) (returns (num 1) ∷ []) ∷ returns (num 0) ∷ []
+
+-- turn of A
+abbrev pub dear_turn : List TypedStmt
+dear_turn =
+    while (compare (field 0) Eq (num 0)) (returns (num 1) ∷ [])
+    ∷ returns (num 0)
+    ∷ []
+
+-- answer of A
+abbrev pub dear_answer : List TypedStmt
+dear_answer = returns (field 0) ∷ []
+
+-- stop of A
+abbrev pub dear_stop : List TypedStmt
+dear_stop = reverts (field 0) ∷ []
+
+-- own_only of A
+abbrev pub dear_own_only : List TypedStmt
+dear_own_only = self_only 23 (field 0 ∷ []) ∷ returns (num 0) ∷ []
+
+-- call_only of A
+abbrev pub dear_call_only : List TypedStmt
+dear_call_only = call_only (named 1) 23 (field 0 ∷ []) ∷ returns (num 0) ∷ []
+
+-- attempt of A
+abbrev pub dear_attempt : List TypedStmt
+dear_attempt = let_try 0 (named 1) 23 (field 0 ∷ []) ∷ returns (num 0) ∷ []
+
+-- read_map of A
+abbrev pub dear_read_map : List TypedStmt
+dear_read_map = returns (at 3 (field 0)) ∷ []
+
+-- add of A
+abbrev pub dear_add : List TypedStmt
+dear_add = returns (plus (field 0) (field 1)) ∷ []
+
+-- multiply of A
+abbrev pub dear_multiply : List TypedStmt
+dear_multiply = returns (times (field 0) (field 1)) ∷ []
+
+-- compare of A
+abbrev pub dear_compare : List TypedStmt
+dear_compare = returns (compare (field 0) Eq (field 1)) ∷ []
+
+-- negate of A
+abbrev pub dear_negate : List TypedStmt
+dear_negate = returns (no (field 2)) ∷ []
+
+-- both of A
+abbrev pub dear_both : List TypedStmt
+dear_both = returns (all_of (field 2 ∷ field 2 ∷ [])) ∷ []
+
+-- either of A
+abbrev pub dear_either : List TypedStmt
+dear_either = returns (any_of (no (field 2) ∷ field 2 ∷ [])) ∷ []
+
+-- own_answer of A
+abbrev pub dear_own_answer : List TypedStmt
+dear_own_answer = returns (self_calls 23 (field 0 ∷ [])) ∷ []
+
+-- big of A
+abbrev pub dear_big : List TypedStmt
+dear_big = returns (plus (num 340282366920938463463374607431768211455) (num 1)) ∷ []
+
+-- own_missing of A
+abbrev pub dear_own_missing : List TypedStmt
+dear_own_missing = self_only 24 [] ∷ returns (num 0) ∷ []
+
+-- call_missing of A
+abbrev pub dear_call_missing : List TypedStmt
+dear_call_missing = call_only (named 1) 24 [] ∷ returns (num 0) ∷ []
+
+-- try_missing of A
+abbrev pub dear_try_missing : List TypedStmt
+dear_try_missing = let_try 0 (named 1) 24 [] ∷ returns (num 0) ∷ []
+
+-- id of A
+abbrev pub dear_a_id : List TypedStmt
+dear_a_id = returns (local 0) ∷ []
+
+-- id of B
+abbrev pub dear_b_id : List TypedStmt
+dear_b_id = returns (local 0) ∷ []
+
+-- the contract
 abbrev pub dear : Typed
-dear = contract (takes [] Num ∷ takes [] Num ∷ takes [] Num ∷ takes [] Num ∷ takes [] Num ∷ takes [] Num ∷ takes [] Num ∷ takes [] Num ∷ takes [] Num ∷ takes [] Num ∷ takes [] Num ∷ takes [] Num ∷ takes [] Num ∷ takes [] Num ∷ takes [] Flag ∷ takes [] Flag ∷ takes [] Flag ∷ takes [] Flag ∷ takes [] Num ∷ takes [] Num ∷ takes [] Num ∷ takes [] Num ∷ takes [] Num ∷ takes (Num ∷ []) Num ∷ takes [] Num ∷ []) (
-    object (starting ((0, 7) ∷ []) num_field ∷ starting ((0, 8) ∷ []) num_field ∷ starting ((0, 1) ∷ []) flag_field ∷ map_field Num Num ∷ []) (
-    method 0 1 (
-    let_num 0 (field 0)
-    ∷ returns (num 0) ∷ [])
-    ∷ method 1 1 (
-    let_num 0 (num 0)
-    ∷ set_local 0 (field 0)
-    ∷ returns (num 0) ∷ [])
-    ∷ method 2 0 (
-    set_field 1 (field 0)
-    ∷ returns (num 0) ∷ [])
-    ∷ method 3 0 (
-    set_at 3 (field 0) (field 1)
-    ∷ returns (num 0) ∷ [])
-    ∷ method 4 0 (
-    when (compare (field 0) Eq (num 0)) (
-    returns (num 1) ∷ [])
-    ∷ returns (num 0) ∷ [])
-    ∷ method 5 0 (
-    while (compare (field 0) Eq (num 0)) (
-    returns (num 1) ∷ [])
-    ∷ returns (num 0) ∷ [])
-    ∷ method 6 0 (
-    returns (field 0) ∷ [])
-    ∷ method 7 0 (
-    reverts (field 0) ∷ [])
-    ∷ method 8 0 (
-    self_only 23 (field 0 ∷ [])
-    ∷ returns (num 0) ∷ [])
-    ∷ method 9 0 (
-    call_only (named 1) 23 (field 0 ∷ [])
-    ∷ returns (num 0) ∷ [])
-    ∷ method 10 1 (
-    let_try 0 (named 1) 23 (field 0 ∷ [])
-    ∷ returns (num 0) ∷ [])
-    ∷ method 11 0 (
-    returns (at 3 (field 0)) ∷ [])
-    ∷ method 12 0 (
-    returns (plus (field 0) (field 1)) ∷ [])
-    ∷ method 13 0 (
-    returns (times (field 0) (field 1)) ∷ [])
-    ∷ method 14 0 (
-    returns (compare (field 0) Eq (field 1)) ∷ [])
-    ∷ method 15 0 (
-    returns (no (field 2)) ∷ [])
-    ∷ method 16 0 (
-    returns (all_of (field 2 ∷ field 2 ∷ [])) ∷ [])
-    ∷ method 17 0 (
-    returns (any_of (no (field 2) ∷ field 2 ∷ [])) ∷ [])
-    ∷ method 18 0 (
-    returns (self_calls 23 (field 0 ∷ [])) ∷ [])
-    ∷ method 19 0 (
-    returns (plus (num 340282366920938463463374607431768211455) (num 1)) ∷ [])
-    ∷ method 20 0 (
-    self_only 24 []
-    ∷ returns (num 0) ∷ [])
-    ∷ method 21 0 (
-    call_only (named 1) 24 []
-    ∷ returns (num 0) ∷ [])
-    ∷ method 22 1 (
-    let_try 0 (named 1) 24 []
-    ∷ returns (num 0) ∷ [])
-    ∷ method 23 1 (
-    returns (local 0) ∷ []) ∷ [])
-    ∷ object [] (
-    method 23 1 (
-    returns (local 0) ∷ []) ∷ []) ∷ [])
+dear = contract
+    (takes [] Num ∷ takes [] Num ∷ takes [] Num ∷ takes [] Num ∷ takes [] Num ∷ takes [] Num ∷ takes [] Num ∷ takes [] Num ∷ takes [] Num ∷ takes [] Num ∷ takes [] Num ∷ takes [] Num ∷ takes [] Num ∷ takes [] Num ∷ takes [] Flag ∷ takes [] Flag ∷ takes [] Flag ∷ takes [] Flag ∷ takes [] Num ∷ takes [] Num ∷ takes [] Num ∷ takes [] Num ∷ takes [] Num ∷ takes (Num ∷ []) Num ∷ takes [] Num ∷ [])
+    (object (starting ((0, 7) ∷ []) num_field ∷ starting ((0, 8) ∷ []) num_field ∷ starting ((0, 1) ∷ []) flag_field ∷ map_field Num Num ∷ []) (
+    method 0 1 dear_keep
+    ∷ method 1 1 dear_keep_again
+    ∷ method 2 0 dear_set
+    ∷ method 3 0 dear_set_map
+    ∷ method 4 0 dear_test
+    ∷ method 5 0 dear_turn
+    ∷ method 6 0 dear_answer
+    ∷ method 7 0 dear_stop
+    ∷ method 8 0 dear_own_only
+    ∷ method 9 0 dear_call_only
+    ∷ method 10 1 dear_attempt
+    ∷ method 11 0 dear_read_map
+    ∷ method 12 0 dear_add
+    ∷ method 13 0 dear_multiply
+    ∷ method 14 0 dear_compare
+    ∷ method 15 0 dear_negate
+    ∷ method 16 0 dear_both
+    ∷ method 17 0 dear_either
+    ∷ method 18 0 dear_own_answer
+    ∷ method 19 0 dear_big
+    ∷ method 20 0 dear_own_missing
+    ∷ method 21 0 dear_call_missing
+    ∷ method 22 1 dear_try_missing
+    ∷ method 23 1 dear_a_id ∷ [])
+    ∷ object [] (method 23 1 dear_b_id ∷ []) ∷ [])
 
 -- x of A
 abbrev pub x : Cell

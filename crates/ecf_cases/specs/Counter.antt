@@ -1,9 +1,10 @@
 -- A counter, bumped.
-use Rattle.std.specs.Prelude.{◌≡◌, [], ◌∷◌, Some, None}
+use Rattle.std.specs.Prelude.{◌≡◌, [], ◌∷◌, List, Some, None}
 use Rattle.ecf_lang.specs.declared.cell.Cell.{Cell}
 use Rattle.ecf_lang.specs.declared.tree.Ty.TheVariants.{Num}
 use Rattle.ecf_lang.specs.declared.run.Outcome.TheVariants.{Answer, OutOfFuel}
 use Rattle.ecf_lang.specs.declared.typed.Typed.{Typed}
+use Rattle.ecf_lang.specs.declared.typed.TypedStmt.{TypedStmt}
 use Rattle.ecf_lang.specs.declared.tx.Tx.{Tx}
 use Rattle.ecf_lang.specs.Meaning.{run, Ran}
 use Rattle.ecf_cases.specs.Words.{contract, takes, object, num_field, method, num, field, plus, set_field, returns, transaction, calling, cell, reads, writes, invoked}
@@ -15,12 +16,16 @@ use Rattle.ecf_cases.specs.Words.{contract, takes, object, num_field, method, nu
 --     return n;
 --   }
 -- }
+
+-- bump of Counter
+abbrev pub counter_bump : List TypedStmt
+counter_bump = set_field 0 (plus (field 0) (num 1)) ∷ returns (field 0) ∷ []
+
+-- the contract
 abbrev pub counter : Typed
-counter = contract (takes [] Num ∷ []) (
-    object (num_field ∷ []) (
-    method 0 0 (
-    set_field 0 (plus (field 0) (num 1))
-    ∷ returns (field 0) ∷ []) ∷ []) ∷ [])
+counter = contract
+    (takes [] Num ∷ [])
+    (object (num_field ∷ []) (method 0 0 counter_bump ∷ []) ∷ [])
 
 -- n of Counter
 abbrev pub n : Cell

@@ -1,10 +1,11 @@
 -- A method that calls itself until no frame may be opened.
-use Rattle.std.specs.Prelude.{◌≡◌, ◌++◌, [], ◌∷◌, Some, None, replicate}
+use Rattle.std.specs.Prelude.{◌≡◌, ◌++◌, [], ◌∷◌, List, Some, None, replicate}
 use Rattle.ecf_lang.specs.declared.cell.Cell.{Cell}
 use Rattle.ecf_lang.specs.declared.tree.Ty.TheVariants.{Num, Flag}
 use Rattle.ecf_lang.specs.declared.run.Cause.TheVariants.{Depth}
 use Rattle.ecf_lang.specs.declared.run.Outcome.TheVariants.{Answer, Reverted, OutOfFuel}
 use Rattle.ecf_lang.specs.declared.typed.Typed.{Typed}
+use Rattle.ecf_lang.specs.declared.typed.TypedStmt.{TypedStmt}
 use Rattle.ecf_lang.specs.declared.tx.Tx.{Tx}
 use Rattle.ecf_lang.specs.Genesis.{genesis}
 use Rattle.ecf_lang.specs.Meaning.{run, Ran}
@@ -14,12 +15,16 @@ use Rattle.ecf_cases.specs.Words.{contract, takes, object, num_field, starting, 
 --   num x = 7;
 --   method deep(): num { x = 0; return self.deep(); }
 -- }
+
+-- deep of M
+abbrev pub deep_deep : List TypedStmt
+deep_deep = set_field 0 (num 0) ∷ returns (self_calls 0 []) ∷ []
+
+-- the contract
 abbrev pub deep : Typed
-deep = contract (takes [] Num ∷ []) (
-    object (starting ((0, 7) ∷ []) num_field ∷ []) (
-    method 0 0 (
-    set_field 0 (num 0)
-    ∷ returns (self_calls 0 []) ∷ []) ∷ []) ∷ [])
+deep = contract
+    (takes [] Num ∷ [])
+    (object (starting ((0, 7) ∷ []) num_field ∷ []) (method 0 0 deep_deep ∷ []) ∷ [])
 
 -- x of M
 abbrev pub x : Cell
@@ -66,11 +71,16 @@ NotPaid = run deep (genesis deep) go_with_less ≡ not_paid
 -- object M {
 --   method deep(): num { return call here.deep(); }
 -- }
+
+-- deep of M
+abbrev pub deep_outside_deep : List TypedStmt
+deep_outside_deep = returns (calls here 0 []) ∷ []
+
+-- the contract
 abbrev pub deep_outside : Typed
-deep_outside = contract (takes [] Num ∷ []) (
-    object [] (
-    method 0 0 (
-    returns (calls here 0 []) ∷ []) ∷ []) ∷ [])
+deep_outside = contract
+    (takes [] Num ∷ [])
+    (object [] (method 0 0 deep_outside_deep ∷ []) ∷ [])
 
 -- M deep 832
 abbrev pub go_outside : Tx
@@ -113,12 +123,16 @@ NotPaidOutside = run deep_outside [] go_outside_with_less ≡ not_paid_outside
 -- object M {
 --   method deep(): flag { let ok: flag = try here.deep(); return ok; }
 -- }
+
+-- deep of M
+abbrev pub deep_tries_deep : List TypedStmt
+deep_tries_deep = let_try 0 here 0 [] ∷ returns (local 0) ∷ []
+
+-- the contract
 abbrev pub deep_tries : Typed
-deep_tries = contract (takes [] Flag ∷ []) (
-    object [] (
-    method 0 1 (
-    let_try 0 here 0 []
-    ∷ returns (local 0) ∷ []) ∷ []) ∷ [])
+deep_tries = contract
+    (takes [] Flag ∷ [])
+    (object [] (method 0 1 deep_tries_deep ∷ []) ∷ [])
 
 -- M deep 1000
 abbrev pub try_outside : Tx

@@ -10,6 +10,7 @@ pub mod Limits
 pub mod Logic
 pub mod Lonely
 pub mod Loop
+pub mod Operators
 pub mod Order
 pub mod Reverting
 pub mod Trying

@@ -1,10 +1,11 @@
 -- Comparisons, `!`, `&&`, `||` and `if`.
-use Rattle.std.specs.Prelude.{◌≡◌, [], ◌∷◌, Some}
+use Rattle.std.specs.Prelude.{◌≡◌, [], ◌∷◌, List, Some}
 use Rattle.ecf_lang.specs.declared.cell.Cell.{Cell}
 use Rattle.ecf_lang.specs.declared.tree.Op.TheVariants.{Eq, Ne, Lt, Le, Gt, Ge}
 use Rattle.ecf_lang.specs.declared.tree.Ty.TheVariants.{Num, Flag}
 use Rattle.ecf_lang.specs.declared.run.Outcome.TheVariants.{Answer}
 use Rattle.ecf_lang.specs.declared.typed.Typed.{Typed}
+use Rattle.ecf_lang.specs.declared.typed.TypedStmt.{TypedStmt}
 use Rattle.ecf_lang.specs.declared.tx.Tx.{Tx}
 use Rattle.ecf_lang.specs.Store.{Store}
 use Rattle.ecf_lang.specs.Genesis.{genesis}
@@ -23,31 +24,44 @@ use Rattle.ecf_cases.specs.Words.{contract, takes, object, num_field, flag_field
 --   }
 --   method silent(n: num): num { if n == 0 { return 5; } x = n; }
 -- }
+
+-- both of L
+abbrev pub logic_both : List TypedStmt
+logic_both =
+    returns (all_of (compare (local 0) Lt (num 2) ∷ compare (field 0) Eq (num 3) ∷ []))
+    ∷ []
+
+-- either of L
+abbrev pub logic_either : List TypedStmt
+logic_either =
+    returns (any_of (compare (local 0) Ge (num 2) ∷ compare (field 0) Ne (num 3) ∷ []))
+    ∷ []
+
+-- three of L
+abbrev pub logic_three : List TypedStmt
+logic_three =
+    returns (all_of (compare (local 0) Le (num 5) ∷ compare (local 0) Gt (num 1) ∷ no (field 1) ∷ []))
+    ∷ []
+
+-- choose of L
+abbrev pub logic_choose : List TypedStmt
+logic_choose =
+    choose ((compare (local 0) Eq (num 0), block (returns (num 10) ∷ [])) ∷ (compare (local 0) Eq (num 1), block (set_field 0 (num 20) ∷ [])) ∷ []) (Some (block (set_field 0 (num 30) ∷ [])))
+    ∷ returns (field 0)
+    ∷ []
+
+-- silent of L
+abbrev pub logic_silent : List TypedStmt
+logic_silent =
+    when (compare (local 0) Eq (num 0)) (returns (num 5) ∷ [])
+    ∷ set_field 0 (local 0)
+    ∷ []
+
+-- the contract
 abbrev pub logic : Typed
-logic = contract (takes (Num ∷ []) Flag ∷ takes (Num ∷ []) Flag ∷ takes (Num ∷ []) Flag ∷ takes (Num ∷ []) Num ∷ takes (Num ∷ []) Num ∷ []) (
-    object (starting ((0, 3) ∷ []) num_field ∷ starting ((0, 1) ∷ []) flag_field ∷ []) (
-    method 0 1 (
-    returns (all_of (compare (local 0) Lt (num 2) ∷ compare (field 0) Eq (num 3) ∷ [])) ∷ [])
-    ∷ method 1 1 (
-    returns (any_of (compare (local 0) Ge (num 2) ∷ compare (field 0) Ne (num 3) ∷ [])) ∷ [])
-    ∷ method 2 1 (
-    returns (all_of (compare (local 0) Le (num 5) ∷ compare (local 0) Gt (num 1) ∷ no (field 1) ∷ [])) ∷ [])
-    ∷ method 3 1 (
-    choose ((
-      compare (local 0) Eq (num 0),
-      block (
-          returns (num 10) ∷ []),
-    ) ∷ (
-      compare (local 0) Eq (num 1),
-      block (
-          set_field 0 (num 20) ∷ []),
-    ) ∷ []) (Some (block (
-    set_field 0 (num 30) ∷ [])))
-    ∷ returns (field 0) ∷ [])
-    ∷ method 4 1 (
-    when (compare (local 0) Eq (num 0)) (
-    returns (num 5) ∷ [])
-    ∷ set_field 0 (local 0) ∷ []) ∷ []) ∷ [])
+logic = contract
+    (takes (Num ∷ []) Flag ∷ takes (Num ∷ []) Flag ∷ takes (Num ∷ []) Flag ∷ takes (Num ∷ []) Num ∷ takes (Num ∷ []) Num ∷ [])
+    (object (starting ((0, 3) ∷ []) num_field ∷ starting ((0, 1) ∷ []) flag_field ∷ []) (method 0 1 logic_both ∷ method 1 1 logic_either ∷ method 2 1 logic_three ∷ method 3 1 logic_choose ∷ method 4 1 logic_silent ∷ []) ∷ [])
 
 -- x of L
 abbrev pub x : Cell
@@ -273,15 +287,24 @@ NoElse = run logic (genesis logic) silent_0 ≡ no_else
 --   method either(): flag { return a || b; }
 --   method not_a(): flag { return ! a; }
 -- }
+
+-- both of G
+abbrev pub flags_both : List TypedStmt
+flags_both = returns (all_of (field 0 ∷ field 1 ∷ [])) ∷ []
+
+-- either of G
+abbrev pub flags_either : List TypedStmt
+flags_either = returns (any_of (field 0 ∷ field 1 ∷ [])) ∷ []
+
+-- not_a of G
+abbrev pub flags_not_a : List TypedStmt
+flags_not_a = returns (no (field 0)) ∷ []
+
+-- the contract
 abbrev pub flags : Typed
-flags = contract (takes [] Flag ∷ takes [] Flag ∷ takes [] Flag ∷ []) (
-    object (flag_field ∷ flag_field ∷ []) (
-    method 0 0 (
-    returns (all_of (field 0 ∷ field 1 ∷ [])) ∷ [])
-    ∷ method 1 0 (
-    returns (any_of (field 0 ∷ field 1 ∷ [])) ∷ [])
-    ∷ method 2 0 (
-    returns (no (field 0)) ∷ []) ∷ []) ∷ [])
+flags = contract
+    (takes [] Flag ∷ takes [] Flag ∷ takes [] Flag ∷ [])
+    (object (flag_field ∷ flag_field ∷ []) (method 0 0 flags_both ∷ method 1 0 flags_either ∷ method 2 0 flags_not_a ∷ []) ∷ [])
 
 -- a of G
 abbrev pub a : Cell

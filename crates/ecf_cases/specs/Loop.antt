@@ -1,10 +1,11 @@
 -- A loop that fills a map and sums it.
-use Rattle.std.specs.Prelude.{◌≡◌, ℕ, true, [], ◌∷◌, Some, None}
+use Rattle.std.specs.Prelude.{◌≡◌, ℕ, true, [], ◌∷◌, List, Some, None}
 use Rattle.ecf_lang.specs.declared.cell.Cell.{Cell}
 use Rattle.ecf_lang.specs.declared.tree.Op.TheVariants.{Eq, Lt}
 use Rattle.ecf_lang.specs.declared.tree.Ty.TheVariants.{Num}
 use Rattle.ecf_lang.specs.declared.run.Outcome.TheVariants.{Answer, OutOfFuel}
 use Rattle.ecf_lang.specs.declared.typed.Typed.{Typed}
+use Rattle.ecf_lang.specs.declared.typed.TypedStmt.{TypedStmt}
 use Rattle.ecf_lang.specs.declared.tx.Tx.{Tx}
 use Rattle.ecf_lang.specs.Meaning.{run, Ran}
 use Rattle.ecf_cases.specs.Words.{contract, takes, object, map_field, method, num, flag, local, at, plus, times, compare, let_num, set_local, set_at, when, while, returns, transaction, calling, cell, reads, writes, invoked}
@@ -22,17 +23,21 @@ use Rattle.ecf_cases.specs.Words.{contract, takes, object, map_field, method, nu
 --     return t;
 --   }
 -- }
-abbrev pub squares : Typed
-squares = contract (takes (Num ∷ []) Num ∷ []) (
-    object (map_field Num Num ∷ []) (
-    method 0 3 (
+
+-- sum of S
+abbrev pub squares_sum : List TypedStmt
+squares_sum =
     let_num 1 (num 0)
     ∷ let_num 2 (num 0)
-    ∷ while (compare (local 1) Lt (local 0)) (
-    set_local 1 (plus (local 1) (num 1))
-    ∷ set_at 0 (local 1) (times (local 1) (local 1))
-    ∷ set_local 2 (plus (local 2) (at 0 (local 1))) ∷ [])
-    ∷ returns (local 2) ∷ []) ∷ []) ∷ [])
+    ∷ while (compare (local 1) Lt (local 0)) (set_local 1 (plus (local 1) (num 1)) ∷ set_at 0 (local 1) (times (local 1) (local 1)) ∷ set_local 2 (plus (local 2) (at 0 (local 1))) ∷ [])
+    ∷ returns (local 2)
+    ∷ []
+
+-- the contract
+abbrev pub squares : Typed
+squares = contract
+    (takes (Num ∷ []) Num ∷ [])
+    (object (map_field Num Num ∷ []) (method 0 3 squares_sum ∷ []) ∷ [])
 
 -- m of S, by its key
 abbrev pub m : ℕ → Cell
@@ -87,16 +92,20 @@ NoTurn = run squares [] sum_of_none ≡ no_turn
 --     return 7;
 --   }
 -- }
-abbrev pub returning : Typed
-returning = contract (takes (Num ∷ []) Num ∷ []) (
-    object [] (
-    method 0 2 (
+
+-- first of S
+abbrev pub returning_first : List TypedStmt
+returning_first =
     let_num 1 (num 0)
-    ∷ while (flag true) (
-    set_local 1 (plus (local 1) (num 1))
-    ∷ when (compare (local 1) Eq (local 0)) (
-    returns (times (local 1) (num 10)) ∷ []) ∷ [])
-    ∷ returns (num 7) ∷ []) ∷ []) ∷ [])
+    ∷ while (flag true) (set_local 1 (plus (local 1) (num 1)) ∷ when (compare (local 1) Eq (local 0)) (returns (times (local 1) (num 10)) ∷ []) ∷ [])
+    ∷ returns (num 7)
+    ∷ []
+
+-- the contract
+abbrev pub returning : Typed
+returning = contract
+    (takes (Num ∷ []) Num ∷ [])
+    (object [] (method 0 2 returning_first ∷ []) ∷ [])
 
 -- S first 1000 2
 abbrev pub first_with_2 : Tx
@@ -120,12 +129,16 @@ ReturnsFromLoop = run returning [] first_with_2 ≡ returned
 -- object S {
 --   method spin(): num { while true { } return 0; }
 -- }
+
+-- spin of S
+abbrev pub endless_spin : List TypedStmt
+endless_spin = while (flag true) [] ∷ returns (num 0) ∷ []
+
+-- the contract
 abbrev pub endless : Typed
-endless = contract (takes [] Num ∷ []) (
-    object [] (
-    method 0 0 (
-    while (flag true) []
-    ∷ returns (num 0) ∷ []) ∷ []) ∷ [])
+endless = contract
+    (takes [] Num ∷ [])
+    (object [] (method 0 0 endless_spin ∷ []) ∷ [])
 
 -- S spin 12
 abbrev pub spin : Tx

@@ -1,10 +1,11 @@
 -- What is evaluated first, as the steps tell.
-use Rattle.std.specs.Prelude.{◌≡◌, ℕ, [], ◌∷◌, Some}
+use Rattle.std.specs.Prelude.{◌≡◌, ℕ, [], ◌∷◌, List, Some}
 use Rattle.ecf_lang.specs.declared.cell.Cell.{Cell}
 use Rattle.ecf_lang.specs.declared.tree.Op.TheVariants.{Lt}
 use Rattle.ecf_lang.specs.declared.tree.Ty.TheVariants.{Num, Flag, Addr}
 use Rattle.ecf_lang.specs.declared.run.Outcome.TheVariants.{Answer}
 use Rattle.ecf_lang.specs.declared.typed.Typed.{Typed}
+use Rattle.ecf_lang.specs.declared.typed.TypedStmt.{TypedStmt}
 use Rattle.ecf_lang.specs.declared.tx.Tx.{Tx}
 use Rattle.ecf_lang.specs.Genesis.{genesis}
 use Rattle.ecf_lang.specs.Meaning.{run, Ran}
@@ -23,23 +24,37 @@ use Rattle.ecf_cases.specs.Words.{contract, takes, object, num_field, map_field,
 -- object B {
 --   method take(a: num, b: num): num { return a * 10 + b; }
 -- }
+
+-- put of A
+abbrev pub ordered_put : List TypedStmt
+ordered_put = set_at 2 (field 0) (field 1) ∷ returns (num 0) ∷ []
+
+-- get of A
+abbrev pub ordered_get : List TypedStmt
+ordered_get = returns (minus (at 2 (field 1)) (field 0)) ∷ []
+
+-- compared of A
+abbrev pub ordered_compared : List TypedStmt
+ordered_compared = returns (compare (field 0) Lt (field 1)) ∷ []
+
+-- ask of A
+abbrev pub ordered_ask : List TypedStmt
+ordered_ask = returns (calls (self_calls 4 []) 5 (field 0 ∷ field 1 ∷ [])) ∷ []
+
+-- target of A
+abbrev pub ordered_target : List TypedStmt
+ordered_target = returns (named 1) ∷ []
+
+-- take of B
+abbrev pub ordered_take : List TypedStmt
+ordered_take = returns (plus (times (local 0) (num 10)) (local 1)) ∷ []
+
+-- the contract
 abbrev pub ordered : Typed
-ordered = contract (takes [] Num ∷ takes [] Num ∷ takes [] Flag ∷ takes [] Num ∷ takes [] Addr ∷ takes (Num ∷ Num ∷ []) Num ∷ []) (
-    object (starting ((0, 1) ∷ []) num_field ∷ starting ((0, 2) ∷ []) num_field ∷ starting ((2, 6) ∷ []) (map_field Num Num) ∷ []) (
-    method 0 0 (
-    set_at 2 (field 0) (field 1)
-    ∷ returns (num 0) ∷ [])
-    ∷ method 1 0 (
-    returns (minus (at 2 (field 1)) (field 0)) ∷ [])
-    ∷ method 2 0 (
-    returns (compare (field 0) Lt (field 1)) ∷ [])
-    ∷ method 3 0 (
-    returns (calls (self_calls 4 []) 5 (field 0 ∷ field 1 ∷ [])) ∷ [])
-    ∷ method 4 0 (
-    returns (named 1) ∷ []) ∷ [])
-    ∷ object [] (
-    method 5 2 (
-    returns (plus (times (local 0) (num 10)) (local 1)) ∷ []) ∷ []) ∷ [])
+ordered = contract
+    (takes [] Num ∷ takes [] Num ∷ takes [] Flag ∷ takes [] Num ∷ takes [] Addr ∷ takes (Num ∷ Num ∷ []) Num ∷ [])
+    (object (starting ((0, 1) ∷ []) num_field ∷ starting ((0, 2) ∷ []) num_field ∷ starting ((2, 6) ∷ []) (map_field Num Num) ∷ []) (method 0 0 ordered_put ∷ method 1 0 ordered_get ∷ method 2 0 ordered_compared ∷ method 3 0 ordered_ask ∷ method 4 0 ordered_target ∷ [])
+    ∷ object [] (method 5 2 ordered_take ∷ []) ∷ [])
 
 -- x of A
 abbrev pub x : Cell

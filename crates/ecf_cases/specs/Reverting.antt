@@ -1,10 +1,11 @@
 -- Runs that revert, each for its cause.
-use Rattle.std.specs.Prelude.{◌≡◌, [], ◌∷◌, None}
+use Rattle.std.specs.Prelude.{◌≡◌, [], ◌∷◌, List, None}
 use Rattle.ecf_lang.specs.declared.cell.Cell.{Cell}
 use Rattle.ecf_lang.specs.declared.tree.Ty.TheVariants.{Num}
 use Rattle.ecf_lang.specs.declared.run.Cause.TheVariants.{User, Overflow, DivZero, NoMethod}
 use Rattle.ecf_lang.specs.declared.run.Outcome.TheVariants.{Reverted}
 use Rattle.ecf_lang.specs.declared.typed.Typed.{Typed}
+use Rattle.ecf_lang.specs.declared.typed.TypedStmt.{TypedStmt}
 use Rattle.ecf_lang.specs.declared.tx.Tx.{Tx}
 use Rattle.ecf_lang.specs.Genesis.{genesis}
 use Rattle.ecf_lang.specs.Meaning.{run, Ran}
@@ -23,34 +24,51 @@ use Rattle.ecf_cases.specs.Words.{contract, takes, object, num_field, starting, 
 -- object N {
 --   method leaf(): num { return 0; }
 -- }
+
+-- over of M
+abbrev pub faulty_over : List TypedStmt
+faulty_over =
+    set_field 0 (num 0)
+    ∷ returns (plus (num 340282366920938463463374607431768211455) (num 1))
+    ∷ []
+
+-- under of M
+abbrev pub faulty_under : List TypedStmt
+faulty_under = set_field 0 (num 0) ∷ returns (minus (num 1) (num 2)) ∷ []
+
+-- much of M
+abbrev pub faulty_much : List TypedStmt
+faulty_much =
+    set_field 0 (num 0)
+    ∷ returns (times (num 18446744073709551616) (num 18446744073709551616))
+    ∷ []
+
+-- div of M
+abbrev pub faulty_div : List TypedStmt
+faulty_div = set_field 0 (num 0) ∷ returns (over (num 1) (num 0)) ∷ []
+
+-- rem of M
+abbrev pub faulty_rem : List TypedStmt
+faulty_rem = set_field 0 (num 0) ∷ returns (modulo (num 1) (num 0)) ∷ []
+
+-- gone of M
+abbrev pub faulty_gone : List TypedStmt
+faulty_gone = set_field 0 (num 0) ∷ call_only (named 1) 0 [] ∷ returns (num 0) ∷ []
+
+-- own of M
+abbrev pub faulty_own : List TypedStmt
+faulty_own = set_field 0 (num 0) ∷ reverts (plus (field 0) (num 3)) ∷ []
+
+-- leaf of N
+abbrev pub faulty_leaf : List TypedStmt
+faulty_leaf = returns (num 0) ∷ []
+
+-- the contract
 abbrev pub faulty : Typed
-faulty = contract (takes [] Num ∷ takes [] Num ∷ takes [] Num ∷ takes [] Num ∷ takes [] Num ∷ takes [] Num ∷ takes [] Num ∷ takes [] Num ∷ []) (
-    object (starting ((0, 7) ∷ []) num_field ∷ []) (
-    method 0 0 (
-    set_field 0 (num 0)
-    ∷ returns (plus (num 340282366920938463463374607431768211455) (num 1)) ∷ [])
-    ∷ method 1 0 (
-    set_field 0 (num 0)
-    ∷ returns (minus (num 1) (num 2)) ∷ [])
-    ∷ method 2 0 (
-    set_field 0 (num 0)
-    ∷ returns (times (num 18446744073709551616) (num 18446744073709551616)) ∷ [])
-    ∷ method 3 0 (
-    set_field 0 (num 0)
-    ∷ returns (over (num 1) (num 0)) ∷ [])
-    ∷ method 4 0 (
-    set_field 0 (num 0)
-    ∷ returns (modulo (num 1) (num 0)) ∷ [])
-    ∷ method 5 0 (
-    set_field 0 (num 0)
-    ∷ call_only (named 1) 0 []
-    ∷ returns (num 0) ∷ [])
-    ∷ method 6 0 (
-    set_field 0 (num 0)
-    ∷ reverts (plus (field 0) (num 3)) ∷ []) ∷ [])
-    ∷ object [] (
-    method 7 0 (
-    returns (num 0) ∷ []) ∷ []) ∷ [])
+faulty = contract
+    (takes [] Num ∷ takes [] Num ∷ takes [] Num ∷ takes [] Num ∷ takes [] Num ∷ takes [] Num ∷ takes [] Num ∷ takes [] Num ∷ [])
+    (object (starting ((0, 7) ∷ []) num_field ∷ []) (method 0 0 faulty_over ∷ method 1 0 faulty_under ∷ method 2 0 faulty_much ∷ method 3 0 faulty_div ∷ method 4 0 faulty_rem ∷ method 5 0 faulty_gone ∷ method 6 0 faulty_own ∷ [])
+    ∷ object [] (method 7 0 faulty_leaf ∷ []) ∷ [])
 
 -- x of M
 abbrev pub x : Cell

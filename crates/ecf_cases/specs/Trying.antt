@@ -1,10 +1,11 @@
 -- Calls whose revert is caught.
-use Rattle.std.specs.Prelude.{◌≡◌, [], ◌∷◌, Some, None}
+use Rattle.std.specs.Prelude.{◌≡◌, [], ◌∷◌, List, Some, None}
 use Rattle.ecf_lang.specs.declared.cell.Cell.{Cell}
 use Rattle.ecf_lang.specs.declared.tree.Ty.TheVariants.{Num, Flag}
 use Rattle.ecf_lang.specs.declared.run.Cause.TheVariants.{DivZero}
 use Rattle.ecf_lang.specs.declared.run.Outcome.TheVariants.{Answer, Reverted, OutOfFuel}
 use Rattle.ecf_lang.specs.declared.typed.Typed.{Typed}
+use Rattle.ecf_lang.specs.declared.typed.TypedStmt.{TypedStmt}
 use Rattle.ecf_lang.specs.declared.tx.Tx.{Tx}
 use Rattle.ecf_lang.specs.Genesis.{genesis}
 use Rattle.ecf_lang.specs.Meaning.{run, Ran}
@@ -23,19 +24,26 @@ use Rattle.ecf_cases.specs.Words.{contract, takes, object, num_field, starting, 
 --   num y;
 --   method bad(): num { y = 7; revert 3; }
 -- }
-abbrev pub catches : Typed
-catches = contract (takes [] Num ∷ takes [] Num ∷ []) (
-    object (num_field ∷ []) (
-    method 0 1 (
+
+-- go of A
+abbrev pub catches_go : List TypedStmt
+catches_go =
     set_field 0 (num 1)
     ∷ let_try 0 (named 1) 1 []
-    ∷ when (local 0) (
-    set_field 0 (num 5) ∷ [])
-    ∷ returns (field 0) ∷ []) ∷ [])
-    ∷ object (num_field ∷ []) (
-    method 1 0 (
-    set_field 0 (num 7)
-    ∷ reverts (num 3) ∷ []) ∷ []) ∷ [])
+    ∷ when (local 0) (set_field 0 (num 5) ∷ [])
+    ∷ returns (field 0)
+    ∷ []
+
+-- bad of B
+abbrev pub catches_bad : List TypedStmt
+catches_bad = set_field 0 (num 7) ∷ reverts (num 3) ∷ []
+
+-- the contract
+abbrev pub catches : Typed
+catches = contract
+    (takes [] Num ∷ takes [] Num ∷ [])
+    (object (num_field ∷ []) (method 0 1 catches_go ∷ [])
+    ∷ object (num_field ∷ []) (method 1 0 catches_bad ∷ []) ∷ [])
 
 -- x of A
 abbrev pub x : Cell
@@ -98,21 +106,30 @@ NotCaught = run catches [] go_with_20 ≡ ran_out
 -- object B {
 --   method back(): num { call A.set(); revert 1; }
 -- }
-abbrev pub catches_callback : Typed
-catches_callback = contract (takes [] Num ∷ takes [] Num ∷ takes [] Num ∷ []) (
-    object (num_field ∷ []) (
-    method 0 1 (
+
+-- go of A
+abbrev pub catches_callback_go : List TypedStmt
+catches_callback_go =
     set_field 0 (num 1)
     ∷ let_try 0 (named 1) 2 []
     ∷ set_field 0 (num 2)
-    ∷ returns (field 0) ∷ [])
-    ∷ method 1 0 (
-    set_field 0 (plus (field 0) (num 1))
-    ∷ returns (num 0) ∷ []) ∷ [])
-    ∷ object [] (
-    method 2 0 (
-    call_only (named 0) 1 []
-    ∷ reverts (num 1) ∷ []) ∷ []) ∷ [])
+    ∷ returns (field 0)
+    ∷ []
+
+-- set of A
+abbrev pub catches_callback_set : List TypedStmt
+catches_callback_set = set_field 0 (plus (field 0) (num 1)) ∷ returns (num 0) ∷ []
+
+-- back of B
+abbrev pub catches_callback_back : List TypedStmt
+catches_callback_back = call_only (named 0) 1 [] ∷ reverts (num 1) ∷ []
+
+-- the contract
+abbrev pub catches_callback : Typed
+catches_callback = contract
+    (takes [] Num ∷ takes [] Num ∷ takes [] Num ∷ [])
+    (object (num_field ∷ []) (method 0 1 catches_callback_go ∷ method 1 0 catches_callback_set ∷ [])
+    ∷ object [] (method 2 0 catches_callback_back ∷ []) ∷ [])
 
 -- what the callee called is undone with it
 abbrev pub caught_with_callback : Ran
@@ -135,12 +152,16 @@ CaughtWithCallback = run catches_callback [] go ≡ caught_with_callback
 --   method go(): flag { let ok: flag = try B.go(); return ok; }
 -- }
 -- object B { }
+
+-- go of A
+abbrev pub tries_missing_go : List TypedStmt
+tries_missing_go = let_try 0 (named 1) 0 [] ∷ returns (local 0) ∷ []
+
+-- the contract
 abbrev pub tries_missing : Typed
-tries_missing = contract (takes [] Flag ∷ []) (
-    object [] (
-    method 0 1 (
-    let_try 0 (named 1) 0 []
-    ∷ returns (local 0) ∷ []) ∷ [])
+tries_missing = contract
+    (takes [] Flag ∷ [])
+    (object [] (method 0 1 tries_missing_go ∷ [])
     ∷ object [] [] ∷ [])
 
 -- a missing method is caught, and opens no invocation
@@ -170,18 +191,25 @@ CaughtMissing = run tries_missing [] go ≡ caught_missing
 --   num y;
 --   method good(n: num): num { y = n; return 9; }
 -- }
-abbrev pub succeeds : Typed
-succeeds = contract (takes [] Num ∷ takes (Num ∷ []) Num ∷ []) (
-    object (num_field ∷ []) (
-    method 0 1 (
+
+-- go of A
+abbrev pub succeeds_go : List TypedStmt
+succeeds_go =
     let_try 0 (named 1) 1 (num 4 ∷ [])
-    ∷ when (local 0) (
-    set_field 0 (num 5) ∷ [])
-    ∷ returns (field 0) ∷ []) ∷ [])
-    ∷ object (num_field ∷ []) (
-    method 1 1 (
-    set_field 0 (local 0)
-    ∷ returns (num 9) ∷ []) ∷ []) ∷ [])
+    ∷ when (local 0) (set_field 0 (num 5) ∷ [])
+    ∷ returns (field 0)
+    ∷ []
+
+-- good of B
+abbrev pub succeeds_good : List TypedStmt
+succeeds_good = set_field 0 (local 0) ∷ returns (num 9) ∷ []
+
+-- the contract
+abbrev pub succeeds : Typed
+succeeds = contract
+    (takes [] Num ∷ takes (Num ∷ []) Num ∷ [])
+    (object (num_field ∷ []) (method 0 1 succeeds_go ∷ [])
+    ∷ object (num_field ∷ []) (method 1 1 succeeds_good ∷ []) ∷ [])
 
 -- where the callee answers, the flag is 1, and its steps and writes stay
 abbrev pub answered : Ran
@@ -216,20 +244,30 @@ Answers = run succeeds [] go ≡ answered
 --   method good(): num { return y; }
 -- }
 -- object C { }
-abbrev pub reads_again : Typed
-reads_again = contract (takes [] Num ∷ takes [] Num ∷ takes [] Num ∷ []) (
-    object (starting ((0, 2) ∷ []) num_field ∷ []) (
-    method 0 1 (
+
+-- go of A
+abbrev pub reads_again_go : List TypedStmt
+reads_again_go =
     set_field 0 (plus (field 0) (num 1))
     ∷ let_try 0 (named 1) 1 []
     ∷ call_only (named 1) 2 []
-    ∷ returns (field 0) ∷ []) ∷ [])
-    ∷ object (starting ((0, 5) ∷ []) num_field ∷ starting ((0, 8) ∷ []) num_field ∷ []) (
-    method 1 0 (
-    set_field 0 (plus (field 0) (num 1))
-    ∷ reverts (field 1) ∷ [])
-    ∷ method 2 0 (
-    returns (field 0) ∷ []) ∷ [])
+    ∷ returns (field 0)
+    ∷ []
+
+-- bad of B
+abbrev pub reads_again_bad : List TypedStmt
+reads_again_bad = set_field 0 (plus (field 0) (num 1)) ∷ reverts (field 1) ∷ []
+
+-- good of B
+abbrev pub reads_again_good : List TypedStmt
+reads_again_good = returns (field 0) ∷ []
+
+-- the contract
+abbrev pub reads_again : Typed
+reads_again = contract
+    (takes [] Num ∷ takes [] Num ∷ takes [] Num ∷ [])
+    (object (starting ((0, 2) ∷ []) num_field ∷ []) (method 0 1 reads_again_go ∷ [])
+    ∷ object (starting ((0, 5) ∷ []) num_field ∷ starting ((0, 8) ∷ []) num_field ∷ []) (method 1 0 reads_again_bad ∷ method 2 0 reads_again_good ∷ [])
     ∷ object [] [] ∷ [])
 
 -- z of B
@@ -277,29 +315,40 @@ ReadsStay = run reads_again (genesis reads_again) go ≡ read_again
 -- object C {
 --   method bad(): num { call A.set(10); return 1 / 0; }
 -- }
-abbrev pub nests : Typed
-nests = contract (takes [] Num ∷ takes (Num ∷ []) Num ∷ takes [] Num ∷ takes [] Num ∷ []) (
-    object (num_field ∷ []) (
-    method 0 1 (
+
+-- go of A
+abbrev pub nests_go : List TypedStmt
+nests_go =
     let_try 0 (named 1) 2 []
-    ∷ when (local 0) (
-    returns (field 0) ∷ [])
-    ∷ returns (num 100) ∷ [])
-    ∷ method 1 1 (
-    set_field 0 (plus (field 0) (local 0))
-    ∷ returns (field 0) ∷ []) ∷ [])
-    ∷ object (num_field ∷ []) (
-    method 2 1 (
+    ∷ when (local 0) (returns (field 0) ∷ [])
+    ∷ returns (num 100)
+    ∷ []
+
+-- set of A
+abbrev pub nests_set : List TypedStmt
+nests_set = set_field 0 (plus (field 0) (local 0)) ∷ returns (field 0) ∷ []
+
+-- middle of B
+abbrev pub nests_middle : List TypedStmt
+nests_middle =
     call_only (named 0) 1 (num 1 ∷ [])
     ∷ let_try 0 (named 2) 3 []
-    ∷ when (local 0) (
-    returns (num 0) ∷ [])
+    ∷ when (local 0) (returns (num 0) ∷ [])
     ∷ set_field 0 (num 4)
-    ∷ returns (num 1) ∷ []) ∷ [])
-    ∷ object [] (
-    method 3 0 (
-    call_only (named 0) 1 (num 10 ∷ [])
-    ∷ returns (over (num 1) (num 0)) ∷ []) ∷ []) ∷ [])
+    ∷ returns (num 1)
+    ∷ []
+
+-- bad of C
+abbrev pub nests_bad : List TypedStmt
+nests_bad = call_only (named 0) 1 (num 10 ∷ []) ∷ returns (over (num 1) (num 0)) ∷ []
+
+-- the contract
+abbrev pub nests : Typed
+nests = contract
+    (takes [] Num ∷ takes (Num ∷ []) Num ∷ takes [] Num ∷ takes [] Num ∷ [])
+    (object (num_field ∷ []) (method 0 1 nests_go ∷ method 1 1 nests_set ∷ [])
+    ∷ object (num_field ∷ []) (method 2 1 nests_middle ∷ [])
+    ∷ object [] (method 3 0 nests_bad ∷ []) ∷ [])
 
 -- A go 300
 abbrev pub go_with_300 : Tx
@@ -336,15 +385,24 @@ InnermostCatches = run nests [] go_with_300 ≡ inner_caught
 -- object B {
 --   method take(n: num): num { return n; }
 -- }
-abbrev pub tries_in_arguments : Typed
-tries_in_arguments = contract (takes [] Num ∷ takes (Num ∷ []) Num ∷ []) (
-    object (starting ((0, 3) ∷ []) num_field ∷ []) (
-    method 0 1 (
+
+-- go of A
+abbrev pub tries_in_arguments_go : List TypedStmt
+tries_in_arguments_go =
     let_try 0 (named 1) 1 (over (field 0) (num 0) ∷ [])
-    ∷ returns (num 1) ∷ []) ∷ [])
-    ∷ object [] (
-    method 1 1 (
-    returns (local 0) ∷ []) ∷ []) ∷ [])
+    ∷ returns (num 1)
+    ∷ []
+
+-- take of B
+abbrev pub tries_in_arguments_take : List TypedStmt
+tries_in_arguments_take = returns (local 0) ∷ []
+
+-- the contract
+abbrev pub tries_in_arguments : Typed
+tries_in_arguments = contract
+    (takes [] Num ∷ takes (Num ∷ []) Num ∷ [])
+    (object (starting ((0, 3) ∷ []) num_field ∷ []) (method 0 1 tries_in_arguments_go ∷ [])
+    ∷ object [] (method 1 1 tries_in_arguments_take ∷ []) ∷ [])
 
 -- a revert in an argument of the `try` is not caught by it
 abbrev pub argument_failed : Ran

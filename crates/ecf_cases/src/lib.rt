@@ -1,7 +1,7 @@
 //! Worked cases of the meaning, proved by computation: each clause is one case, a whole run with all that it leaves.
 #![tactic(auto)]
 
-ghost use Rattle.ecf_cases.specs.Arithmetic.{Chains, Groups, Multiplies, Mixes};
+ghost use Rattle.ecf_cases.specs.Arithmetic.{Chains, Groups, Multiplies, Mixes, Greatest, Least, GreatProduct};
 ghost use Rattle.ecf_cases.specs.Bank.{PaysFirst, ClearsFirst};
 ghost use Rattle.ecf_cases.specs.Callback.{ComesFirst, CycleOfThree, Apart, RevertsAtLast, WritesTheSame};
 ghost use Rattle.ecf_cases.specs.Calling.{StaysInside, CallsItself, CallsAnother, AnswersInOrder};
@@ -12,6 +12,7 @@ ghost use Rattle.ecf_cases.specs.Limits.{DepthBeforeAll, DepthBeforeMethod, Invo
 ghost use Rattle.ecf_cases.specs.Logic.{BothRead, RightSkipped, OtherRead, OtherSkipped, AllThree, NoneOfThree, FirstArm, SecondArm, LastBlock, EndsSilently, NoElse, OddBoth, OddEither, OddNot};
 ghost use Rattle.ecf_cases.specs.Lonely.{FirstOfBank, SecondOfBank, FirstOfThief, SecondOfThief, UnclearedFirst, UnclearedSecond, NoAnswerLeft, NoFuelLeft, HearsInOrder, HearsFlag, UndoneAlone};
 ghost use Rattle.ecf_cases.specs.Loop.{SumsSquares, NoTurn, ReturnsFromLoop, Spins};
+ghost use Rattle.ecf_cases.specs.Operators.{AtGreater, AtSmaller, AtEqual, AtZero, AtZeroLeft};
 ghost use Rattle.ecf_cases.specs.Order.{IndexFirst, LeftFirst, LeftSideFirst, TargetFirst};
 ghost use Rattle.ecf_cases.specs.Reverting.{SumOverflows, DifferenceOverflows, ProductOverflows, DividesByZero, RemainderByZero, WantsMethod, RevertsItself};
 ghost use Rattle.ecf_cases.specs.Trying.{Caught, NotCaught, CaughtWithCallback, CaughtMissing, Answers, ReadsStay, InnermostCatches, ArgumentNotCaught};
@@ -156,6 +157,18 @@ pub fn arithmetic()
     ensures keeps_brackets { Groups }
     ensures multiplies_in_order { Multiplies }
     ensures multiplies_first { Mixes }
+    ensures reaches_the_greatest_number { Greatest }
+    ensures reaches_0 { Least }
+    ensures multiplies_great_numbers { GreatProduct }
+{}
+
+/// The eleven operators, each at a few pairs of numbers.
+pub fn operators()
+    ensures at_greater { AtGreater }
+    ensures at_smaller { AtSmaller }
+    ensures at_equal { AtEqual }
+    ensures at_zero_right { AtZero }
+    ensures at_zero_left { AtZeroLeft }
 {}
 
 /// The tests of a call, in their order.
