@@ -59,8 +59,16 @@ sums_great_product =
 -- the contract
 abbrev pub sums : Typed
 sums = contract
-    (takes (Num ∷ []) Num ∷ takes (Num ∷ []) Num ∷ takes (Num ∷ []) Num ∷ takes (Num ∷ []) Num ∷ takes [] Num ∷ takes [] Num ∷ takes [] Num ∷ [])
-    (object (starting ((0, 7) ∷ []) num_field ∷ []) (method 0 1 sums_chain ∷ method 1 1 sums_grouped ∷ method 2 1 sums_products ∷ method 3 1 sums_mixed ∷ method 4 0 sums_greatest ∷ method 5 0 sums_least ∷ method 6 0 sums_great_product ∷ []) ∷ [])
+    (takes (Num ∷ []) Num ∷ takes (Num ∷ []) Num ∷ takes (Num ∷ []) Num ∷ takes (Num ∷ []) Num
+    ∷ takes [] Num ∷ takes [] Num ∷ takes [] Num ∷ [])
+    (object (starting ((0, 7) ∷ []) num_field ∷ []) (
+    method 0 1 sums_chain
+    ∷ method 1 1 sums_grouped
+    ∷ method 2 1 sums_products
+    ∷ method 3 1 sums_mixed
+    ∷ method 4 0 sums_greatest
+    ∷ method 5 0 sums_least
+    ∷ method 6 0 sums_great_product ∷ []) ∷ [])
 
 -- x of N
 abbrev pub x : Cell

@@ -45,11 +45,18 @@ pays_first_withdraw =
     ∷ returns (local 1)
     ∷ []
 
+-- the arm in receive of Thief
+abbrev pub pays_first_receive_arm : List TypedStmt
+pays_first_receive_arm =
+    set_field 1 (plus (field 1) (num 1))
+    ∷ call_only (named 0) 0 (here ∷ [])
+    ∷ []
+
 -- receive of Thief
 abbrev pub pays_first_receive : List TypedStmt
 pays_first_receive =
     set_field 0 (plus (field 0) (local 0))
-    ∷ when (compare (field 1) Lt (num 1)) (set_field 1 (plus (field 1) (num 1)) ∷ call_only (named 0) 0 (here ∷ []) ∷ [])
+    ∷ when (compare (field 1) Lt (num 1)) pays_first_receive_arm
     ∷ returns (num 0)
     ∷ []
 
@@ -57,7 +64,8 @@ pays_first_receive =
 abbrev pub pays_first : Typed
 pays_first = contract
     (takes (Addr ∷ []) Num ∷ takes (Num ∷ []) Num ∷ [])
-    (object (starting ((1, 5) ∷ []) (map_field Addr Num) ∷ starting ((0, 20) ∷ []) num_field ∷ []) (method 0 2 pays_first_withdraw ∷ [])
+    (object (starting ((1, 5) ∷ []) (map_field Addr Num) ∷ starting ((0, 20) ∷ []) num_field ∷ []) (
+    method 0 2 pays_first_withdraw ∷ [])
     ∷ object (num_field ∷ num_field ∷ []) (method 1 1 pays_first_receive ∷ []) ∷ [])
 
 -- owed of Bank, by its key
@@ -110,11 +118,18 @@ clears_first_withdraw =
     ∷ returns (local 1)
     ∷ []
 
+-- the arm in receive of Thief
+abbrev pub clears_first_receive_arm : List TypedStmt
+clears_first_receive_arm =
+    set_field 1 (plus (field 1) (num 1))
+    ∷ call_only (named 0) 0 (here ∷ [])
+    ∷ []
+
 -- receive of Thief
 abbrev pub clears_first_receive : List TypedStmt
 clears_first_receive =
     set_field 0 (plus (field 0) (local 0))
-    ∷ when (compare (field 1) Lt (num 1)) (set_field 1 (plus (field 1) (num 1)) ∷ call_only (named 0) 0 (here ∷ []) ∷ [])
+    ∷ when (compare (field 1) Lt (num 1)) clears_first_receive_arm
     ∷ returns (num 0)
     ∷ []
 
@@ -122,7 +137,8 @@ clears_first_receive =
 abbrev pub clears_first : Typed
 clears_first = contract
     (takes (Addr ∷ []) Num ∷ takes (Num ∷ []) Num ∷ [])
-    (object (starting ((1, 5) ∷ []) (map_field Addr Num) ∷ starting ((0, 20) ∷ []) num_field ∷ []) (method 0 2 clears_first_withdraw ∷ [])
+    (object (starting ((1, 5) ∷ []) (map_field Addr Num) ∷ starting ((0, 20) ∷ []) num_field ∷ []) (
+    method 0 2 clears_first_withdraw ∷ [])
     ∷ object (num_field ∷ num_field ∷ []) (method 1 1 clears_first_receive ∷ []) ∷ [])
 
 -- Bank withdraw 1000 Thief

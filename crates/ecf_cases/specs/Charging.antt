@@ -154,7 +154,11 @@ dear_b_id = returns (local 0) ∷ []
 -- the contract
 abbrev pub dear : Typed
 dear = contract
-    (takes [] Num ∷ takes [] Num ∷ takes [] Num ∷ takes [] Num ∷ takes [] Num ∷ takes [] Num ∷ takes [] Num ∷ takes [] Num ∷ takes [] Num ∷ takes [] Num ∷ takes [] Num ∷ takes [] Num ∷ takes [] Num ∷ takes [] Num ∷ takes [] Flag ∷ takes [] Flag ∷ takes [] Flag ∷ takes [] Flag ∷ takes [] Num ∷ takes [] Num ∷ takes [] Num ∷ takes [] Num ∷ takes [] Num ∷ takes (Num ∷ []) Num ∷ takes [] Num ∷ [])
+    (takes [] Num ∷ takes [] Num ∷ takes [] Num ∷ takes [] Num ∷ takes [] Num ∷ takes [] Num
+    ∷ takes [] Num ∷ takes [] Num ∷ takes [] Num ∷ takes [] Num ∷ takes [] Num ∷ takes [] Num
+    ∷ takes [] Num ∷ takes [] Num ∷ takes [] Flag ∷ takes [] Flag ∷ takes [] Flag ∷ takes [] Flag
+    ∷ takes [] Num ∷ takes [] Num ∷ takes [] Num ∷ takes [] Num ∷ takes [] Num ∷ takes (Num ∷ []) Num
+    ∷ takes [] Num ∷ [])
     (object (starting ((0, 7) ∷ []) num_field ∷ starting ((0, 8) ∷ []) num_field ∷ starting ((0, 1) ∷ []) flag_field ∷ map_field Num Num ∷ []) (
     method 0 1 dear_keep
     ∷ method 1 1 dear_keep_again

@@ -10,7 +10,7 @@ use Rattle.ecf_lang.specs.declared.tx.Tx.{Tx}
 use Rattle.ecf_lang.specs.Store.{Store}
 use Rattle.ecf_lang.specs.Genesis.{genesis}
 use Rattle.ecf_lang.specs.Meaning.{run, Ran}
-use Rattle.ecf_cases.specs.Words.{contract, takes, object, num_field, flag_field, starting, block, method, num, local, field, no, compare, all_of, any_of, set_field, choose, when, returns, transaction, calling, cell, reads, writes, invoked}
+use Rattle.ecf_cases.specs.Words.{contract, takes, object, num_field, flag_field, starting, method, num, local, field, no, compare, all_of, any_of, set_field, choose, arm, otherwise, when, returns, transaction, calling, cell, reads, writes, invoked}
 
 -- object L {
 --   num x = 3;
@@ -46,7 +46,7 @@ logic_three =
 -- choose of L
 abbrev pub logic_choose : List TypedStmt
 logic_choose =
-    choose ((compare (local 0) Eq (num 0), block (returns (num 10) ∷ [])) ∷ (compare (local 0) Eq (num 1), block (set_field 0 (num 20) ∷ [])) ∷ []) (Some (block (set_field 0 (num 30) ∷ [])))
+    choose (arm (compare (local 0) Eq (num 0)) (returns (num 10) ∷ []) ∷ arm (compare (local 0) Eq (num 1)) (set_field 0 (num 20) ∷ []) ∷ []) (otherwise (set_field 0 (num 30) ∷ []))
     ∷ returns (field 0)
     ∷ []
 
@@ -60,8 +60,14 @@ logic_silent =
 -- the contract
 abbrev pub logic : Typed
 logic = contract
-    (takes (Num ∷ []) Flag ∷ takes (Num ∷ []) Flag ∷ takes (Num ∷ []) Flag ∷ takes (Num ∷ []) Num ∷ takes (Num ∷ []) Num ∷ [])
-    (object (starting ((0, 3) ∷ []) num_field ∷ starting ((0, 1) ∷ []) flag_field ∷ []) (method 0 1 logic_both ∷ method 1 1 logic_either ∷ method 2 1 logic_three ∷ method 3 1 logic_choose ∷ method 4 1 logic_silent ∷ []) ∷ [])
+    (takes (Num ∷ []) Flag ∷ takes (Num ∷ []) Flag ∷ takes (Num ∷ []) Flag ∷ takes (Num ∷ []) Num
+    ∷ takes (Num ∷ []) Num ∷ [])
+    (object (starting ((0, 3) ∷ []) num_field ∷ starting ((0, 1) ∷ []) flag_field ∷ []) (
+    method 0 1 logic_both
+    ∷ method 1 1 logic_either
+    ∷ method 2 1 logic_three
+    ∷ method 3 1 logic_choose
+    ∷ method 4 1 logic_silent ∷ []) ∷ [])
 
 -- x of L
 abbrev pub x : Cell

@@ -24,12 +24,20 @@ use Rattle.ecf_cases.specs.Words.{contract, takes, object, map_field, method, nu
 --   }
 -- }
 
+-- the turn in sum of S
+abbrev pub squares_sum_turn : List TypedStmt
+squares_sum_turn =
+    set_local 1 (plus (local 1) (num 1))
+    ∷ set_at 0 (local 1) (times (local 1) (local 1))
+    ∷ set_local 2 (plus (local 2) (at 0 (local 1)))
+    ∷ []
+
 -- sum of S
 abbrev pub squares_sum : List TypedStmt
 squares_sum =
     let_num 1 (num 0)
     ∷ let_num 2 (num 0)
-    ∷ while (compare (local 1) Lt (local 0)) (set_local 1 (plus (local 1) (num 1)) ∷ set_at 0 (local 1) (times (local 1) (local 1)) ∷ set_local 2 (plus (local 2) (at 0 (local 1))) ∷ [])
+    ∷ while (compare (local 1) Lt (local 0)) squares_sum_turn
     ∷ returns (local 2)
     ∷ []
 
@@ -93,11 +101,18 @@ NoTurn = run squares [] sum_of_none ≡ no_turn
 --   }
 -- }
 
+-- the turn in first of S
+abbrev pub returning_first_turn : List TypedStmt
+returning_first_turn =
+    set_local 1 (plus (local 1) (num 1))
+    ∷ when (compare (local 1) Eq (local 0)) (returns (times (local 1) (num 10)) ∷ [])
+    ∷ []
+
 -- first of S
 abbrev pub returning_first : List TypedStmt
 returning_first =
     let_num 1 (num 0)
-    ∷ while (flag true) (set_local 1 (plus (local 1) (num 1)) ∷ when (compare (local 1) Eq (local 0)) (returns (times (local 1) (num 10)) ∷ []) ∷ [])
+    ∷ while (flag true) returning_first_turn
     ∷ returns (num 7)
     ∷ []
 

@@ -53,7 +53,12 @@ ordered_take = returns (plus (times (local 0) (num 10)) (local 1)) ∷ []
 abbrev pub ordered : Typed
 ordered = contract
     (takes [] Num ∷ takes [] Num ∷ takes [] Flag ∷ takes [] Num ∷ takes [] Addr ∷ takes (Num ∷ Num ∷ []) Num ∷ [])
-    (object (starting ((0, 1) ∷ []) num_field ∷ starting ((0, 2) ∷ []) num_field ∷ starting ((2, 6) ∷ []) (map_field Num Num) ∷ []) (method 0 0 ordered_put ∷ method 1 0 ordered_get ∷ method 2 0 ordered_compared ∷ method 3 0 ordered_ask ∷ method 4 0 ordered_target ∷ [])
+    (object (starting ((0, 1) ∷ []) num_field ∷ starting ((0, 2) ∷ []) num_field ∷ starting ((2, 6) ∷ []) (map_field Num Num) ∷ []) (
+    method 0 0 ordered_put
+    ∷ method 1 0 ordered_get
+    ∷ method 2 0 ordered_compared
+    ∷ method 3 0 ordered_ask
+    ∷ method 4 0 ordered_target ∷ [])
     ∷ object [] (method 5 2 ordered_take ∷ []) ∷ [])
 
 -- x of A

@@ -1,5 +1,5 @@
 -- Runs that revert, each for its cause.
-use Rattle.std.specs.Prelude.{◌≡◌, [], ◌∷◌, List, None}
+use Rattle.std.specs.Prelude.{◌≡◌, [], ◌∷◌, List, Some, None}
 use Rattle.ecf_lang.specs.declared.cell.Cell.{Cell}
 use Rattle.ecf_lang.specs.declared.tree.Ty.TheVariants.{Num}
 use Rattle.ecf_lang.specs.declared.run.Cause.TheVariants.{User, Overflow, DivZero, NoMethod}
@@ -7,9 +7,10 @@ use Rattle.ecf_lang.specs.declared.run.Outcome.TheVariants.{Reverted}
 use Rattle.ecf_lang.specs.declared.typed.Typed.{Typed}
 use Rattle.ecf_lang.specs.declared.typed.TypedStmt.{TypedStmt}
 use Rattle.ecf_lang.specs.declared.tx.Tx.{Tx}
+use Rattle.ecf_lang.specs.Store.{Store}
 use Rattle.ecf_lang.specs.Genesis.{genesis}
 use Rattle.ecf_lang.specs.Meaning.{run, Ran}
-use Rattle.ecf_cases.specs.Words.{contract, takes, object, num_field, starting, method, num, field, named, plus, minus, times, over, modulo, set_field, returns, reverts, call_only, transaction, calling, cell, reads, writes, invoked}
+use Rattle.ecf_cases.specs.Words.{contract, takes, object, num_field, addr_field, starting, method, num, field, named, plus, minus, times, over, modulo, set_field, returns, reverts, call_only, transaction, calling, cell, reads, writes, invoked}
 
 -- object M {
 --   num x = 7;
@@ -20,6 +21,7 @@ use Rattle.ecf_cases.specs.Words.{contract, takes, object, num_field, starting, 
 --   method rem(): num { x = 0; return 1 % 0; }
 --   method gone(): num { x = 0; call N.over(); return 0; }
 --   method own(): num { x = 0; revert x + 3; }
+--   method fine(): num { x = 0; return 4; }
 -- }
 -- object N {
 --   method leaf(): num { return 0; }
@@ -59,6 +61,10 @@ faulty_gone = set_field 0 (num 0) ∷ call_only (named 1) 0 [] ∷ returns (num 
 abbrev pub faulty_own : List TypedStmt
 faulty_own = set_field 0 (num 0) ∷ reverts (plus (field 0) (num 3)) ∷ []
 
+-- fine of M
+abbrev pub faulty_fine : List TypedStmt
+faulty_fine = set_field 0 (num 0) ∷ returns (num 4) ∷ []
+
 -- leaf of N
 abbrev pub faulty_leaf : List TypedStmt
 faulty_leaf = returns (num 0) ∷ []
@@ -66,9 +72,18 @@ faulty_leaf = returns (num 0) ∷ []
 -- the contract
 abbrev pub faulty : Typed
 faulty = contract
-    (takes [] Num ∷ takes [] Num ∷ takes [] Num ∷ takes [] Num ∷ takes [] Num ∷ takes [] Num ∷ takes [] Num ∷ takes [] Num ∷ [])
-    (object (starting ((0, 7) ∷ []) num_field ∷ []) (method 0 0 faulty_over ∷ method 1 0 faulty_under ∷ method 2 0 faulty_much ∷ method 3 0 faulty_div ∷ method 4 0 faulty_rem ∷ method 5 0 faulty_gone ∷ method 6 0 faulty_own ∷ [])
-    ∷ object [] (method 7 0 faulty_leaf ∷ []) ∷ [])
+    (takes [] Num ∷ takes [] Num ∷ takes [] Num ∷ takes [] Num ∷ takes [] Num ∷ takes [] Num
+    ∷ takes [] Num ∷ takes [] Num ∷ takes [] Num ∷ [])
+    (object (starting ((0, 7) ∷ []) num_field ∷ []) (
+    method 0 0 faulty_over
+    ∷ method 1 0 faulty_under
+    ∷ method 2 0 faulty_much
+    ∷ method 3 0 faulty_div
+    ∷ method 4 0 faulty_rem
+    ∷ method 5 0 faulty_gone
+    ∷ method 6 0 faulty_own
+    ∷ method 7 0 faulty_fine ∷ [])
+    ∷ object [] (method 8 0 faulty_leaf ∷ []) ∷ [])
 
 -- x of M
 abbrev pub x : Cell
@@ -206,3 +221,85 @@ reverted = record {
 
 abbrev pub RevertsItself : Type 0
 RevertsItself = run faulty (genesis faulty) ask_own ≡ reverted
+
+-- M fine 100 ; M div
+abbrev pub fine_then_div : Tx
+fine_then_div = transaction 100 (calling 0 7 [] ∷ calling 0 3 [] ∷ [])
+
+-- a revert of the second call: the first one has written nothing either
+abbrev pub second_reverted : Ran
+second_reverted = record {
+  outcome = Reverted DivZero;
+  fuel = 18;
+  store = (x, 7) ∷ [];
+  steps = writes 0 x 0
+      ∷ writes 1 x 0 ∷ [];
+  invocations = invoked 0 7 [] (Some 4) [] 8
+      ∷ invoked 0 3 [] None [] 10 ∷ [];
+  reads = [];
+  writes = [];
+}
+
+abbrev pub SecondReverts : Type 0
+SecondReverts = run faulty (genesis faulty) fine_then_div ≡ second_reverted
+
+-- M div 100 ; M fine
+abbrev pub div_then_fine : Tx
+div_then_fine = transaction 100 (calling 0 3 [] ∷ calling 0 7 [] ∷ [])
+
+-- a revert of the first call: the second one does not begin
+abbrev pub first_reverted : Ran
+first_reverted = record {
+  outcome = Reverted DivZero;
+  fuel = 10;
+  store = (x, 7) ∷ [];
+  steps = writes 0 x 0 ∷ [];
+  invocations = invoked 0 3 [] None [] 10 ∷ [];
+  reads = [];
+  writes = [];
+}
+
+abbrev pub FirstReverts : Type 0
+FirstReverts = run faulty (genesis faulty) div_then_fine ≡ first_reverted
+
+-- object S {
+--   addr who;
+--   method go(): num { call who.go(); return 0; }
+-- }
+
+-- go of S
+abbrev pub strays_go : List TypedStmt
+strays_go = call_only (field 0) 0 [] ∷ returns (num 0) ∷ []
+
+-- the contract
+abbrev pub strays : Typed
+strays = contract
+    (takes [] Num ∷ [])
+    (object (addr_field ∷ []) (method 0 0 strays_go ∷ []) ∷ [])
+
+-- who of S
+abbrev pub who : Cell
+who = cell 0 0 0
+
+-- a store whose address names no object
+abbrev pub nobody : Store
+nobody = (who, 9) ∷ []
+
+-- S go 100
+abbrev pub go_astray : Tx
+go_astray = transaction 100 (calling 0 0 [] ∷ [])
+
+-- an object that is not there has no method
+abbrev pub strayed : Ran
+strayed = record {
+  outcome = Reverted NoMethod;
+  fuel = 15;
+  store = (who, 9) ∷ [];
+  steps = reads 0 who 9 ∷ [];
+  invocations = invoked 0 0 [] None [] 15 ∷ [];
+  reads = (who, 9) ∷ [];
+  writes = [];
+}
+
+abbrev pub Strays : Type 0
+Strays = run strays nobody go_astray ≡ strayed

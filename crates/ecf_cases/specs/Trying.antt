@@ -267,7 +267,9 @@ abbrev pub reads_again : Typed
 reads_again = contract
     (takes [] Num ∷ takes [] Num ∷ takes [] Num ∷ [])
     (object (starting ((0, 2) ∷ []) num_field ∷ []) (method 0 1 reads_again_go ∷ [])
-    ∷ object (starting ((0, 5) ∷ []) num_field ∷ starting ((0, 8) ∷ []) num_field ∷ []) (method 1 0 reads_again_bad ∷ method 2 0 reads_again_good ∷ [])
+    ∷ object (starting ((0, 5) ∷ []) num_field ∷ starting ((0, 8) ∷ []) num_field ∷ []) (
+    method 1 0 reads_again_bad
+    ∷ method 2 0 reads_again_good ∷ [])
     ∷ object [] [] ∷ [])
 
 -- z of B

@@ -1,5 +1,5 @@
 -- Small words for typed contracts, and for what their runs leave.
-use Rattle.std.specs.Prelude.{ℕ, Bool, true, false, List, [], ◌∷◌, map, Option, None}
+use Rattle.std.specs.Prelude.{ℕ, Bool, true, false, List, [], ◌∷◌, map, Option, Some, None}
 use Rattle.ecf_lang.specs.declared.cell.Cell.{Cell}
 use Rattle.ecf_lang.specs.declared.tree.Op.{Op}
 use Rattle.ecf_lang.specs.declared.tree.Op.TheVariants.{Add, Sub, Mul, Div, Rem}
@@ -143,10 +143,6 @@ self_calls name args = expr.Call (call.Internal name args)
 abbrev pub let_num : ℕ → TypedExpr → TypedStmt
 let_num n value = stmt.Let n Num value
 
--- a further local that is a flag
-abbrev pub let_flag : ℕ → TypedExpr → TypedStmt
-let_flag n value = stmt.Let n Flag value
-
 -- a local that says whether a call answered
 abbrev pub let_try : ℕ → TypedExpr → ℕ → List TypedExpr → TypedStmt
 let_try n target name args = stmt.Try n target name args
@@ -167,9 +163,17 @@ set_at map_number key value = stmt.SetAt map_number key value
 abbrev pub choose : List (TypedExpr × TypedBlock) → Option TypedBlock → TypedStmt
 choose arms last = stmt.If arms last
 
--- an `if` alone
+-- an arm of an `if`
+abbrev pub arm : TypedExpr → List TypedStmt → TypedExpr × TypedBlock
+arm cond stmts = (cond, block stmts)
+
+-- the `else` of an `if`
+abbrev pub otherwise : List TypedStmt → Option TypedBlock
+otherwise stmts = Some (block stmts)
+
+-- an `if` of one arm
 abbrev pub when : TypedExpr → List TypedStmt → TypedStmt
-when cond stmts = choose ((cond, block stmts) ∷ []) None
+when cond stmts = choose (arm cond stmts ∷ []) None
 
 abbrev pub while : TypedExpr → List TypedStmt → TypedStmt
 while cond stmts = stmt.While cond (block stmts)

@@ -14,7 +14,7 @@ ghost use Rattle.ecf_cases.specs.Lonely.{FirstOfBank, SecondOfBank, FirstOfThief
 ghost use Rattle.ecf_cases.specs.Loop.{SumsSquares, NoTurn, ReturnsFromLoop, Spins};
 ghost use Rattle.ecf_cases.specs.Operators.{AtGreater, AtSmaller, AtEqual, AtZero, AtZeroLeft};
 ghost use Rattle.ecf_cases.specs.Order.{IndexFirst, LeftFirst, LeftSideFirst, TargetFirst};
-ghost use Rattle.ecf_cases.specs.Reverting.{SumOverflows, DifferenceOverflows, ProductOverflows, DividesByZero, RemainderByZero, WantsMethod, RevertsItself};
+ghost use Rattle.ecf_cases.specs.Reverting.{SumOverflows, DifferenceOverflows, ProductOverflows, DividesByZero, RemainderByZero, WantsMethod, RevertsItself, SecondReverts, FirstReverts, Strays};
 ghost use Rattle.ecf_cases.specs.Trying.{Caught, NotCaught, CaughtWithCallback, CaughtMissing, Answers, ReadsStay, InnermostCatches, ArgumentNotCaught};
 
 /// A counter that counts: with ample fuel, with just enough, with too little, and twice in one transaction.
@@ -102,6 +102,9 @@ pub fn reverting()
     ensures remainder_by_zero { RemainderByZero }
     ensures wants_method { WantsMethod }
     ensures reverts_itself { RevertsItself }
+    ensures second_call_reverts { SecondReverts }
+    ensures first_call_reverts { FirstReverts }
+    ensures misses_the_object { Strays }
 {}
 
 /// A method that calls itself until no frame may be opened.
