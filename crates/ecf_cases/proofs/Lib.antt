@@ -9,9 +9,9 @@ pub mod CounterProof
 pub mod DepthProof
 pub mod LimitsProof
 pub mod LogicProof
-pub mod LonelyProof
 pub mod LoopProof
 pub mod OperatorsProof
 pub mod OrderProof
 pub mod RevertingProof
+pub mod RunAloneProof
 pub mod TryingProof

@@ -262,15 +262,15 @@ ChargedBeforeSetLocal = run dear (genesis dear) (asks 1 5) ≡ ends 1 5 3 [] []
 abbrev pub ValueBeforeWriteCharge : Type 0
 ValueBeforeWriteCharge = run dear (genesis dear) (asks 2 4) ≡ ends 2 4 4 (reads 0 x 7 ∷ []) ((x, 7) ∷ [])
 
--- which comes before the write
+-- the charge of a write comes before the write
 abbrev pub WriteCharge : Type 0
 WriteCharge = run dear (genesis dear) (asks 2 7) ≡ ends 2 7 4 (reads 0 x 7 ∷ []) ((x, 7) ∷ [])
 
--- index and value come before the charge of the write
+-- index and value of an assignment come before the charge of the write
 abbrev pub IndexAndValueFirst : Type 0
 IndexAndValueFirst = run dear (genesis dear) (asks 3 7) ≡ ends 3 7 7 (reads 0 x 7 ∷ reads 0 y 8 ∷ []) ((x, 7) ∷ (y, 8) ∷ [])
 
--- which comes before the write
+-- the charge of a write of a map comes before the write
 abbrev pub MapWriteCharge : Type 0
 MapWriteCharge = run dear (genesis dear) (asks 3 10) ≡ ends 3 10 7 (reads 0 x 7 ∷ reads 0 y 8 ∷ []) ((x, 7) ∷ (y, 8) ∷ [])
 
@@ -278,11 +278,11 @@ MapWriteCharge = run dear (genesis dear) (asks 3 10) ≡ ends 3 10 7 (reads 0 x 
 abbrev pub ConditionBeforeTurn : Type 0
 ConditionBeforeTurn = run dear (genesis dear) (asks 5 4) ≡ ends 5 4 4 (reads 0 x 7 ∷ []) ((x, 7) ∷ [])
 
--- the index comes before the charge of the read
+-- the index comes before the charge of a read of a map
 abbrev pub IndexBeforeReadCharge : Type 0
 IndexBeforeReadCharge = run dear (genesis dear) (asks 11 4) ≡ ends 11 4 4 (reads 0 x 7 ∷ []) ((x, 7) ∷ [])
 
--- which comes before the read
+-- the charge of a read of a map comes before the read
 abbrev pub MapReadCharge : Type 0
 MapReadCharge = run dear (genesis dear) (asks 11 6) ≡ ends 11 6 4 (reads 0 x 7 ∷ []) ((x, 7) ∷ [])
 
@@ -290,15 +290,15 @@ MapReadCharge = run dear (genesis dear) (asks 11 6) ≡ ends 11 6 4 (reads 0 x 7
 abbrev pub PartsBeforeSum : Type 0
 PartsBeforeSum = run dear (genesis dear) (asks 12 7) ≡ ends 12 7 7 (reads 0 x 7 ∷ reads 0 y 8 ∷ []) ((x, 7) ∷ (y, 8) ∷ [])
 
--- so in a product
+-- the parts of a product come before the charge of the operator
 abbrev pub PartsBeforeProduct : Type 0
 PartsBeforeProduct = run dear (genesis dear) (asks 13 7) ≡ ends 13 7 7 (reads 0 x 7 ∷ reads 0 y 8 ∷ []) ((x, 7) ∷ (y, 8) ∷ [])
 
--- so in a comparison
+-- both sides of a comparison come before its charge
 abbrev pub SidesBeforeComparison : Type 0
 SidesBeforeComparison = run dear (genesis dear) (asks 14 7) ≡ ends 14 7 7 (reads 0 x 7 ∷ reads 0 y 8 ∷ []) ((x, 7) ∷ (y, 8) ∷ [])
 
--- so under a `!`
+-- what stands under a `!` comes before its charge
 abbrev pub InnerBeforeNot : Type 0
 InnerBeforeNot = run dear (genesis dear) (asks 15 4) ≡ ends 15 4 4 (reads 0 f 1 ∷ []) ((f, 1) ∷ [])
 
@@ -306,7 +306,7 @@ InnerBeforeNot = run dear (genesis dear) (asks 15 4) ≡ ends 15 4 4 (reads 0 f 
 abbrev pub AndCharge : Type 0
 AndCharge = run dear (genesis dear) (asks 16 6) ≡ ends 16 6 5 (reads 0 f 1 ∷ []) ((f, 1) ∷ [])
 
--- so in an `||`
+-- in an `||` the charge comes before the further part
 abbrev pub OrCharge : Type 0
 OrCharge = run dear (genesis dear) (asks 17 7) ≡ ends 17 7 6 (reads 0 f 1 ∷ []) ((f, 1) ∷ [])
 
@@ -314,11 +314,11 @@ OrCharge = run dear (genesis dear) (asks 17 7) ≡ ends 17 7 6 (reads 0 f 1 ∷ 
 abbrev pub ArgumentsBeforeInternalCharge : Type 0
 ArgumentsBeforeInternalCharge = run dear (genesis dear) (asks 18 6) ≡ ends 18 6 4 (reads 0 x 7 ∷ []) ((x, 7) ∷ [])
 
--- so of an external call, whose charge comes before its invocation opens
+-- the arguments of an external call come before its charge, and no invocation is opened before it
 abbrev pub ArgumentsBeforeCallCharge : Type 0
 ArgumentsBeforeCallCharge = run dear (genesis dear) (asks 9 14) ≡ ends 9 14 5 (reads 0 x 7 ∷ []) ((x, 7) ∷ [])
 
--- so of a `try`, which does not catch it
+-- the arguments of a `try` come before its charge, whose want is not caught
 abbrev pub ArgumentsBeforeTryCharge : Type 0
 ArgumentsBeforeTryCharge = run dear (genesis dear) (asks 10 14) ≡ ends 10 14 5 (reads 0 x 7 ∷ []) ((x, 7) ∷ [])
 
@@ -330,11 +330,11 @@ OperatorCharge = run dear (genesis dear) (asks 19 3) ≡ ends 19 3 3 [] []
 abbrev pub InternalTestCharge : Type 0
 InternalTestCharge = run dear (genesis dear) (asks 20 4) ≡ ends 20 4 1 [] []
 
--- so of an external call
+-- the charge of an external call comes before the test for the method
 abbrev pub TestCharge : Type 0
 TestCharge = run dear (genesis dear) (asks 21 12) ≡ ends 21 12 2 [] []
 
--- so of a `try`
+-- the charge of a `try` comes before the test for the method
 abbrev pub TryTestCharge : Type 0
 TryTestCharge = run dear (genesis dear) (asks 22 12) ≡ ends 22 12 2 [] []
 
@@ -342,7 +342,7 @@ TryTestCharge = run dear (genesis dear) (asks 22 12) ≡ ends 22 12 2 [] []
 abbrev pub with_one_more : Tx
 with_one_more = transaction 13 (calling 0 21 [] ∷ [])
 
--- one more, and the test is made
+-- with the charge of the call paid, the test for the method is made
 abbrev pub tested : Ran
 tested = record {
   outcome = Reverted NoMethod;

@@ -86,7 +86,7 @@ deep_outside = contract
 abbrev pub go_outside : Tx
 go_outside = transaction 832 (calling 0 0 [] ∷ [])
 
--- so by external calls
+-- the 65th frame by external calls is charged and then refused
 abbrev pub too_deep_outside : Ran
 too_deep_outside = record {
   outcome = Reverted Depth;
@@ -105,7 +105,7 @@ TooDeepOutside = run deep_outside [] go_outside ≡ too_deep_outside
 abbrev pub go_outside_with_less : Tx
 go_outside_with_less = transaction 831 (calling 0 0 [] ∷ [])
 
--- one less
+-- one less: the charge comes before the test
 abbrev pub not_paid_outside : Ran
 not_paid_outside = record {
   outcome = OutOfFuel;

@@ -8,9 +8,9 @@ pub mod Counter
 pub mod Depth
 pub mod Limits
 pub mod Logic
-pub mod Lonely
 pub mod Loop
 pub mod Operators
 pub mod Order
 pub mod Reverting
+pub mod RunAlone
 pub mod Trying

@@ -347,7 +347,7 @@ OddBoth = run flags odd_flags ask_both ≡ odd_both
 abbrev pub ask_either : Tx
 ask_either = transaction 100 (calling 0 1 [] ∷ [])
 
--- so has `||`
+-- `||` has the value of the last part evaluated, too
 abbrev pub odd_either : Ran
 odd_either = record {
   outcome = Answer 7;

@@ -96,7 +96,7 @@ IndexFirst = run ordered (genesis ordered) put ≡ put_in_order
 abbrev pub get : Tx
 get = transaction 100 (calling 0 1 [] ∷ [])
 
--- a left part before a right one
+-- the left part of a difference before the right one
 abbrev pub got_in_order : Ran
 got_in_order = record {
   outcome = Answer 5;
@@ -115,7 +115,7 @@ LeftFirst = run ordered (genesis ordered) get ≡ got_in_order
 abbrev pub compared : Tx
 compared = transaction 100 (calling 0 2 [] ∷ [])
 
--- so in a comparison
+-- the left side of a comparison before the right one
 abbrev pub compared_in_order : Ran
 compared_in_order = record {
   outcome = Answer 1;

@@ -1,4 +1,5 @@
-//! Worked cases of the meaning, proved by computation: each clause is one case, a whole run with all that it leaves.
+//! Worked cases of the meaning, proved by computation: each clause is one case, mostly a whole run with all
+//! that it leaves.
 #![tactic(auto)]
 
 ghost use Rattle.ecf_cases.specs.Arithmetic.{Chains, Groups, Multiplies, Mixes, Greatest, Least, GreatProduct};
@@ -10,11 +11,11 @@ ghost use Rattle.ecf_cases.specs.Counter.{Counts, UsesAllFuel, WantsFuelForRead,
 ghost use Rattle.ecf_cases.specs.Depth.{TooDeep, NotPaid, TooDeepOutside, NotPaidOutside, CatchesDepth};
 ghost use Rattle.ecf_cases.specs.Limits.{DepthBeforeAll, DepthBeforeMethod, InvocationsBeforeMethod, MethodAtLast, InternalMethod};
 ghost use Rattle.ecf_cases.specs.Logic.{BothRead, RightSkipped, OtherRead, OtherSkipped, AllThree, NoneOfThree, FirstArm, SecondArm, LastBlock, EndsSilently, NoElse, OddBoth, OddEither, OddNot};
-ghost use Rattle.ecf_cases.specs.Lonely.{FirstOfBank, SecondOfBank, FirstOfThief, SecondOfThief, UnclearedFirst, UnclearedSecond, NoAnswerLeft, NoFuelLeft, HearsInOrder, HearsFlag, UndoneAlone};
 ghost use Rattle.ecf_cases.specs.Loop.{SumsSquares, NoTurn, ReturnsFromLoop, Spins};
 ghost use Rattle.ecf_cases.specs.Operators.{AtGreater, AtSmaller, AtEqual, AtZero, AtZeroLeft};
 ghost use Rattle.ecf_cases.specs.Order.{IndexFirst, LeftFirst, LeftSideFirst, TargetFirst};
 ghost use Rattle.ecf_cases.specs.Reverting.{SumOverflows, DifferenceOverflows, ProductOverflows, DividesByZero, RemainderByZero, WantsMethod, RevertsItself, SecondReverts, FirstReverts, Strays};
+ghost use Rattle.ecf_cases.specs.RunAlone.{FirstOfBank, SecondOfBank, FirstOfThief, SecondOfThief, UnclearedFirst, UnclearedSecond, NoAnswerLeft, NoFuelLeft, HearsInOrder, HearsFlag, UndoneAlone};
 ghost use Rattle.ecf_cases.specs.Trying.{Caught, NotCaught, CaughtWithCallback, CaughtMissing, Answers, ReadsStay, InnermostCatches, ArgumentNotCaught};
 
 /// A counter that counts: with ample fuel, with just enough, with too little, and twice in one transaction.

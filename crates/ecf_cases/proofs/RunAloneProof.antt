@@ -4,7 +4,7 @@ use Rattle.ecf_cases.specs.Words.{invoked}
 use Rattle.ecf_cases.specs.Bank.{clears_first, pays_first, owed, cash, got, tries}
 use Rattle.ecf_cases.specs.Calling.{goes_on}
 use Rattle.ecf_cases.specs.Trying.{catches}
-use Rattle.ecf_cases.specs.Lonely.{FirstOfBank, SecondOfBank, FirstOfThief, SecondOfThief, UnclearedFirst, UnclearedSecond, NoAnswerLeft, NoFuelLeft, HearsInOrder, HearsFlag, UndoneAlone}
+use Rattle.ecf_cases.specs.RunAlone.{FirstOfBank, SecondOfBank, FirstOfThief, SecondOfThief, UnclearedFirst, UnclearedSecond, NoAnswerLeft, NoFuelLeft, HearsInOrder, HearsFlag, UndoneAlone}
 use Rattle.ecf_cases.proofs.Computed.{alone_is, contracts}
 
 pub first_of_bank : FirstOfBank

@@ -19,7 +19,7 @@ first_withdrawal = record {
 abbrev pub FirstOfBank : Type 0
 FirstOfBank = alone clears_first 0 (invoked 0 0 (1 ∷ []) (Some 5) (0 ∷ []) 38) ((owed 1, 5) ∷ (cash, 20) ∷ []) ≡ first_withdrawal
 
--- the second, on the cells that the first left
+-- the second withdrawal, on the cells that the first left
 abbrev pub second_withdrawal : Lone
 second_withdrawal = record {
   outcome = Answer 0;
@@ -30,7 +30,7 @@ second_withdrawal = record {
 abbrev pub SecondOfBank : Type 0
 SecondOfBank = alone clears_first 2 (invoked 0 0 (1 ∷ []) (Some 0) (0 ∷ []) 38) ((cash, 15) ∷ []) ≡ second_withdrawal
 
--- the first receipt
+-- the first receipt, on no cells
 abbrev pub first_receipt : Lone
 first_receipt = record {
   outcome = Answer 0;
@@ -41,7 +41,7 @@ first_receipt = record {
 abbrev pub FirstOfThief : Type 0
 FirstOfThief = alone clears_first 1 (invoked 1 1 (5 ∷ []) (Some 0) (0 ∷ []) 42) [] ≡ first_receipt
 
--- the second, on the cells that the first left
+-- the second receipt, on the cells that the first left
 abbrev pub second_receipt : Lone
 second_receipt = record {
   outcome = Answer 0;
@@ -63,7 +63,7 @@ outer_withdrawal = record {
 abbrev pub UnclearedFirst : Type 0
 UnclearedFirst = alone pays_first 0 (invoked 0 0 (1 ∷ []) (Some 5) (0 ∷ []) 38) ((owed 1, 5) ∷ (cash, 20) ∷ []) ≡ outer_withdrawal
 
--- and the inner one alone pays nothing: it answers 0, and not 5
+-- where the bank pays first, the inner withdrawal alone pays nothing: it answers 0, and not 5
 abbrev pub inner_withdrawal : Lone
 inner_withdrawal = record {
   outcome = Answer 0;
@@ -85,7 +85,7 @@ not_answered = record {
 abbrev pub NoAnswerLeft : Type 0
 NoAnswerLeft = alone clears_first 0 (invoked 0 0 (1 ∷ []) (Some 5) [] 38) ((owed 1, 5) ∷ (cash, 20) ∷ []) ≡ not_answered
 
--- one less than its own fuel
+-- with one less than its own fuel, it is out of fuel
 abbrev pub not_paid : Lone
 not_paid = record {
   outcome = OutOfFuel;
