@@ -19,7 +19,7 @@ map_map f g [] = refl
 map_map f g (x ∷ xs) = ap (λ ys. g (f x) ∷ ys) (map_map f g xs)
 
 module _ (field : List ℕ) where
-  expr_roll : (e : Expr-F CallExpr Expr) → expr_of field (roll-Expr e) ≡ expr_step field (map-Expr _ _ _ _ (fold-CallExpr (Option TypedExpr) (Option TypedExpr) call_step (expr_step field)) (expr_of field) e)
+  pub expr_roll : (e : Expr-F CallExpr Expr) → expr_of field (roll-Expr e) ≡ expr_step field (map-Expr _ _ _ _ (fold-CallExpr (Option TypedExpr) (Option TypedExpr) call_step (expr_step field)) (expr_of field) e)
   unfolding expr_of
   expr_roll e = fold-roll-Expr (Option TypedExpr) (Option TypedExpr) call_step (expr_step field) e
 

@@ -5,6 +5,7 @@
 ghost use Rattle.std.specs.Prelude.{◌≡◌, IfOk, Some, None, [], ◌∷◌, if◌then◌else◌};
 ghost use Rattle.std.specs.Option.{option_copied};
 ghost use Rattle.ecf_small.specs.Small.{typed_of, members_of, small_field, method_of, in_this_order, one_method, stmts_of, stmt_of, expr_of, parts_of, both};
+ghost use Rattle.ecf_small.specs.Form.{HasForm, BeginsEmpty};
 ghost use Rattle.std.specs.Str.{bytes_eq};
 ghost use Rattle.ecf_lang.specs.declared.typed.TypedExpr.TheVariants as typed;
 ghost use Rattle.ecf_lang.specs.declared.typed.Place.TheVariants as place;
@@ -27,6 +28,13 @@ pub fn build(alloc: Global, tree: &Tree) -> Result<Option<Typed>, AllocError>
         _ => Ok(None),
     }
 }
+
+/// Each small contract is one object with one plain field and one method, of assignments to the field
+/// and returns over sums of numbers and the field, and its store is empty before the first transaction.
+pub fn small_contracts()
+    ensures form { HasForm }
+    ensures genesis { BeginsEmpty }
+{}
 
 fn build_object(alloc: Global, name: &Name, members: &[Member]) -> Result<Option<Typed>, AllocError>
     ensures { IfOk result (λ built. built ≡ members_of name.now members.now) }
