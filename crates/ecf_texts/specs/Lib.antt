@@ -4,3 +4,5 @@ pub mod Entries
 pub mod Stops
 pub mod Cells
 pub mod Journal
+pub mod Line
+pub mod OneLine
