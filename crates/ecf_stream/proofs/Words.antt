@@ -1,5 +1,5 @@
 -- The words of a line as the code holds them, and the values that are read from them.
-use Rattle.std.proofs.Common.{◌≡◌, ℕ, suc, ◌+◌, ◌≤◌, ◌<◌, Bool, List, [], ◌∷◌, ◌++◌, ◌||◌, Option, Some, None, length, map, get_or, drop, refl, ap, sym, ◌∙◌, Bor, arith, lit≤, append_assoc}
+use Rattle.std.proofs.Common.{◌≡◌, ℕ, Bool, List, [], ◌∷◌, ◌++◌, ◌||◌, Option, Some, None, map, refl, ap, sym, Bor, append_assoc}
 use Rattle.std.specs.List.{list_any}
 use Rattle.std.specs.Option.{option_map}
 use Rattle.ecf_lang.specs.declared.tree.Ty.{Ty}

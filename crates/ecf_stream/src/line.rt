@@ -2,6 +2,7 @@
 
 ghost use Rattle.std.specs.Prelude.{◌≡◌, ◌<◌, length, map, IfOk, IfErr, IfSome, MatchOption, Ok, Err};
 ghost use Rattle.std.specs.List.{list_any};
+ghost use Rattle.ecf_lang.specs.Fits.{Fits};
 ghost use Rattle.ecf_texts.specs.Line.{IsNumbered, Reading, words, is_empty, is_skipped, object_named, method_named, flag_named, value_of, values_of, arguments_of, tx_of_words, line_of};
 ghost use Rattle.ecf_stream.specs.Lookup.{Finds};
 ghost use Rattle.ecf_stream.specs.StreamFault.{cause_of, Tells};
@@ -21,6 +22,7 @@ pub fn read_tx(alloc: Global, typed: &Typed, line: &[u8]) -> Result<Option<Tx>, 
     requires { IsNumbered typed.now }
     ensures read { IfOk result (λ said. line_of typed.now line.now ≡ Ok said) }
     ensures refused { IfErr result (λ e. IfSome (cause_of e) (λ cause. line_of typed.now line.now ≡ Err cause)) }
+    ensures fits { IfOk result (λ said. IfSome said (Fits typed.now)) }
 {
     let lookup = Lookup::new(alloc, typed)?;
     read_tx_by(alloc, typed, &lookup, line)
@@ -28,6 +30,21 @@ pub fn read_tx(alloc: Global, typed: &Typed, line: &[u8]) -> Result<Option<Tx>, 
 
 /// What `read_tx` answers, with the contract's names made ready for look-ups before.
 pub fn read_tx_by(
+    alloc: Global,
+    typed: &Typed,
+    lookup: &Lookup,
+    line: &[u8],
+) -> Result<Option<Tx>, StreamFault>
+    requires numbered { IsNumbered typed.now }
+    requires found { Finds typed.now lookup.now }
+    ensures read { IfOk result (λ said. line_of typed.now line.now ≡ Ok said) }
+    ensures refused { IfErr result (λ e. IfSome (cause_of e) (λ cause. line_of typed.now line.now ≡ Err cause)) }
+    ensures fits { IfOk result (λ said. IfSome said (Fits typed.now)) }
+{
+    what_it_says(alloc, typed, lookup, line)
+}
+
+fn what_it_says(
     alloc: Global,
     typed: &Typed,
     lookup: &Lookup,

@@ -6,3 +6,4 @@ pub mod Cells
 pub mod Journal
 pub mod Line
 pub mod OneLine
+pub mod LineLaws

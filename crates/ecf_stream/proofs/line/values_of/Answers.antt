@@ -1,4 +1,4 @@
-use Rattle.std.proofs.Common.{◌∙◌, ◌∷◌, ap, sym, map, ◌++◌, ◌≡◌, arith, length}
+use Rattle.std.proofs.Common.{◌∙◌, ◌∷◌, ap, sym, ◌++◌, ◌≡◌, arith, length}
 use Rattle.std.specs.Option.{option_map}
 use Rattle.ecf_texts.specs.Line.{values_of}
 use Rattle.ecf_stream.proofs.Words.{seen, next_value}
