@@ -1,8 +1,9 @@
 //! Appends the lines of entries to a text.
 
 ghost use Rattle.std.specs.Prelude.{◌≡◌, ◌++◌, map, OnOk};
+ghost use Rattle.std.specs.Option.{option_copied};
 ghost use Rattle.std.specs.Arc.{arc_value};
-ghost use Rattle.ecf_texts.specs.Entries.{request_text, call_text, line_text, text_of_entries};
+ghost use Rattle.ecf_texts.specs.Entries.{request_text, call_text, tx_of, line_text, text_of_entries};
 
 use crate::numbers::next_number;
 use crate::receipts::write_receipt;
@@ -26,7 +27,7 @@ pub fn write_entries(
 {
     let mut numbers = BTreeMap::new(alloc);
     for (index, entry) in entries.iter().enumerate() {
-        let Some(tx) = txs.get(entry.row as usize) else {
+        let Some(tx) = tx_of(txs, entry) else {
             continue;
         };
         let number = next_number(&mut numbers, tx.submitter)?;
@@ -35,6 +36,13 @@ pub fn write_entries(
         }
     }
     Ok(())
+}
+
+fn tx_of<'a>(txs: &'a [TxRef], entry: &Entry) -> Option<&'a Tx>
+    ensures { option_copied result ≡ tx_of (map arc_value txs.now) entry.now }
+{
+    let tx = txs.get(entry.row as usize)?;
+    Some(tx)
 }
 
 fn write_line(

@@ -1,5 +1,5 @@
 -- The lines of a journal's entries, version 1.
-use Rattle.std.specs.Prelude.{◌≡◌, ◌==◌, ℕ, ◌+◌, Bool, false, List, [], ◌∷◌, ◌++◌, length, take, drop, count_by, slice_get, codes, decimal}
+use Rattle.std.specs.Prelude.{◌≡◌, ◌==◌, ℕ, ◌+◌, Bool, false, List, [], ◌∷◌, ◌++◌, length, take, drop, count_by, slice_get, Option, codes, decimal}
 use Rattle.std.specs.Option.{option_map_or}
 use Rattle.ecf_lang.specs.declared.typed.Typed.{Typed}
 use Rattle.ecf_lang.specs.declared.tx.Tx.{Tx}
@@ -29,16 +29,20 @@ line_text typed place number tx receipt =
     decimal place ++ codes " " ++ decimal tx.submitter ++ codes "." ++ decimal number ++ codes " "
     ++ request_text typed tx ++ codes " -> " ++ receipt_text typed receipt ++ codes "\n"
 
+-- the transaction of an entry
+abbrev pub tx_of : List Tx → Entry → Option Tx
+tx_of txs entry = slice_get txs entry.row
+
 -- whether an entry is of that submitter
 abbrev pub is_of : List Tx → ℕ → Entry → Bool
-is_of txs submitter entry = option_map_or (λ (tx : Tx). tx.submitter == submitter) (slice_get txs entry.row) false
+is_of txs submitter entry = option_map_or (λ (tx : Tx). tx.submitter == submitter) (tx_of txs entry) false
 
 -- the line of an entry after the entries that stand before it; none where its transaction is missing
 abbrev pub entry_line : Typed → List Tx → List Entry → Entry → List ℕ
 entry_line typed txs earlier entry =
     option_map_or
     (λ (tx : Tx). line_text typed (length earlier + 1) (count_by (is_of txs tx.submitter) earlier + 1) tx entry.receipt)
-    (slice_get txs entry.row) []
+    (tx_of txs entry) []
 
 -- the lines of entries after the entries that stand before them
 abbrev pub lines_after : Typed → List Tx → List Entry → List Entry → List ℕ
