@@ -1,6 +1,5 @@
-use Rattle.std.proofs.Common.{◌≡◌, ◌++◌, map, take, max}
+use Rattle.std.proofs.Common.{map}
 use Rattle.std.specs.Arc.{arc_value}
-use Rattle.ecf_texts.specs.Entries.{text_of_entries}
 use Rattle.ecf_receipts.proofs.Lines.{Printed}
 use Rattle.ecf_receipts.proofs.entries.write_entries.Given as goal
 
