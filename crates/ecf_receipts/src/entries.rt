@@ -62,18 +62,24 @@ fn write_line(
     text.push(b'.')?;
     write_number(text, number as u128)?;
     text.push(b' ')?;
-    write_request(text, typed, tx)?;
+    write_request(text, typed, tx.fuel, tx.calls.as_slice())?;
     text.extend_from_slice(b" -> ")?;
     write_receipt(text, typed, receipt)?;
     text.push(b'\n')?;
     Ok(())
 }
 
-fn write_request(text: &mut Vec<u8>, typed: &Typed, tx: &Tx) -> Result<(), AllocError>
-    ensures { OnOk result (text.new.items ≡ text.old.items ++ request_text typed.now tx.now) }
+fn write_request(
+    text: &mut Vec<u8>,
+    typed: &Typed,
+    limit: u32,
+    calls: &[TxCall],
+) -> Result<(), AllocError>
+    ensures { OnOk result
+        (text.new.items ≡ text.old.items ++ request_text typed.now limit calls.now) }
 {
-    match tx.calls.get(0) {
-        Some(call) => write_call(text, typed, tx.fuel, call),
+    match calls.first() {
+        Some(call) => write_call(text, typed, limit, call),
         None => Ok(()),
     }
 }

@@ -19,15 +19,16 @@ call_text typed limit call =
     object_name typed call.object ++ codes " " ++ method_name typed call.method ++ codes " " ++ decimal limit
     ++ arguments_text typed (params_of typed call.method) call.args
 
--- what a transaction asks for: its one call
-abbrev pub request_text : Typed → Tx → List ℕ
-request_text typed tx = option_map_or (call_text typed tx.fuel) (slice_get tx.calls 0) []
+-- what a transaction asks for under its limit: its one call
+abbrev pub request_text : Typed → ℕ → List TxCall → List ℕ
+request_text typed limit [] = []
+request_text typed limit (call ∷ more) = call_text typed limit call
 
 -- a line of the journal, for the entry at this place and the submitter's entry of this number, both from 1
 abbrev pub line_text : Typed → ℕ → ℕ → Tx → Receipt → List ℕ
 line_text typed place number tx receipt =
     decimal place ++ codes " " ++ decimal tx.submitter ++ codes "." ++ decimal number ++ codes " "
-    ++ request_text typed tx ++ codes " -> " ++ receipt_text typed receipt ++ codes "\n"
+    ++ request_text typed tx.fuel tx.calls ++ codes " -> " ++ receipt_text typed receipt ++ codes "\n"
 
 -- the transaction of an entry
 abbrev pub tx_of : List Tx → Entry → Option Tx
