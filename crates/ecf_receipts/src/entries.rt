@@ -14,6 +14,7 @@ use ecf_lang::typed::Typed;
 use std::alloc::{AllocError, Global};
 use std::collections::BTreeMap;
 
+/// The lines of the entries from a place on; the entries before it are only counted.
 pub fn write_entries(
     alloc: Global,
     text: &mut Vec<u8>,
