@@ -57,11 +57,7 @@ fn stop_word(cause: StopCause) -> &'static str
     }
 }
 
-fn write_cells(
-    text: &mut Vec<u8>,
-    typed: &Typed,
-    cells: &[(Cell, u128)],
-) -> Result<(), AllocError>
+fn write_cells(text: &mut Vec<u8>, typed: &Typed, cells: &[(Cell, u128)]) -> Result<(), AllocError>
     ensures { OnOk result
         (text.new.items ≡ text.old.items ++ flat_map (λ p. cell_line typed.now p.0 p.1) cells.now) }
 {

@@ -1,8 +1,9 @@
 //! Appends the lines of entries to a text.
 
 ghost use Rattle.std.specs.Prelude.{◌≡◌, ◌++◌, map, OnOk};
+ghost use Rattle.std.specs.Option.{option_copied};
 ghost use Rattle.std.specs.Arc.{arc_value};
-ghost use Rattle.ecf_texts.specs.Entries.{request_text, call_text, line_text, text_of_entries};
+ghost use Rattle.ecf_texts.specs.Entries.{request_text, call_text, tx_of, line_text, text_of_entries};
 
 use crate::numbers::next_number;
 use crate::receipts::write_receipt;
@@ -13,6 +14,7 @@ use ecf_lang::typed::Typed;
 use std::alloc::{AllocError, Global};
 use std::collections::BTreeMap;
 
+/// The lines of the entries from a place on; the entries before it are only counted.
 pub fn write_entries(
     alloc: Global,
     text: &mut Vec<u8>,
@@ -26,7 +28,7 @@ pub fn write_entries(
 {
     let mut numbers = BTreeMap::new(alloc);
     for (index, entry) in entries.iter().enumerate() {
-        let Some(tx) = txs.get(entry.row as usize) else {
+        let Some(tx) = tx_of(txs, entry) else {
             continue;
         };
         let number = next_number(&mut numbers, tx.submitter)?;
@@ -35,6 +37,13 @@ pub fn write_entries(
         }
     }
     Ok(())
+}
+
+fn tx_of<'a>(txs: &'a [TxRef], entry: &Entry) -> Option<&'a Tx>
+    ensures { option_copied result ≡ tx_of (map arc_value txs.now) entry.now }
+{
+    let tx = txs.get(entry.row as usize)?;
+    Some(tx)
 }
 
 fn write_line(
@@ -54,18 +63,24 @@ fn write_line(
     text.push(b'.')?;
     write_number(text, number as u128)?;
     text.push(b' ')?;
-    write_request(text, typed, tx)?;
+    write_request(text, typed, tx.fuel, tx.calls.as_slice())?;
     text.extend_from_slice(b" -> ")?;
     write_receipt(text, typed, receipt)?;
     text.push(b'\n')?;
     Ok(())
 }
 
-fn write_request(text: &mut Vec<u8>, typed: &Typed, tx: &Tx) -> Result<(), AllocError>
-    ensures { OnOk result (text.new.items ≡ text.old.items ++ request_text typed.now tx.now) }
+fn write_request(
+    text: &mut Vec<u8>,
+    typed: &Typed,
+    limit: u32,
+    calls: &[TxCall],
+) -> Result<(), AllocError>
+    ensures { OnOk result
+        (text.new.items ≡ text.old.items ++ request_text typed.now limit calls.now) }
 {
-    match tx.calls.get(0) {
-        Some(call) => write_call(text, typed, tx.fuel, call),
+    match calls.first() {
+        Some(call) => write_call(text, typed, limit, call),
         None => Ok(()),
     }
 }

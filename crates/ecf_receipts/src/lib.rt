@@ -1,4 +1,5 @@
 //! Prints a journal as text, version 1: a line for each entry, then the stop, `end` and the cells.
+//! Whatever number names nothing of the contract is spelled by no bytes.
 #![tactic(auto)]
 
 ghost use Rattle.std.specs.Prelude.{◌≡◌, map, All, IfOk};
@@ -20,8 +21,9 @@ use ecf_lang::tx::TxRef;
 use ecf_lang::typed::Typed;
 use std::alloc::{AllocError, Global};
 
-/// The lines of a journal's entries from the place `from` on, counted from 0. Their numbers are those
-/// that they have in the whole journal.
+/// The lines of a journal's entries from the place `from` on, counted from 0; none where `from` is past
+/// the last. Their numbers are those that they have in the whole journal. An entry whose row is no place
+/// of `txs` has no line.
 pub fn print_entries(
     alloc: Global,
     typed: &Typed,
@@ -53,7 +55,7 @@ pub fn print_tail(
     Ok(text)
 }
 
-/// The text of a whole journal.
+/// The text of a whole journal: all lines of its entries, and what stands after them.
 pub fn print_journal(
     alloc: Global,
     typed: &Typed,
@@ -71,3 +73,6 @@ pub fn print_journal(
     write_tail(&mut text, typed, stop, cells)?;
     Ok(text)
 }
+
+#[cfg(test)]
+mod tests;

@@ -10,11 +10,7 @@ use ecf_lang::run::Cause;
 use ecf_lang::typed::Typed;
 use std::alloc::AllocError;
 
-pub fn write_receipt(
-    text: &mut Vec<u8>,
-    typed: &Typed,
-    receipt: &Receipt,
-) -> Result<(), AllocError>
+pub fn write_receipt(text: &mut Vec<u8>, typed: &Typed, receipt: &Receipt) -> Result<(), AllocError>
     ensures { OnOk result (text.new.items ≡ text.old.items ++ receipt_text typed.now receipt.now) }
 {
     match receipt {
