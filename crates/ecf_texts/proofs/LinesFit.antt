@@ -17,7 +17,7 @@ use Rattle.ecf_lang.specs.declared.receipt.StopCause.TheVariants.{Arity, Arg}
 use Rattle.ecf_lang.specs.Fits.{Fits, CallFits, ArgumentsFit, IsValue, method_at}
 use Rattle.ecf_texts.specs.Words.{params_of}
 use Rattle.ecf_texts.specs.Line.{Reading, IsNumbered, words, number_value, number_within, number_named, object_names, object_named, method_named, value_of, values_of, tx_of_words, is_numeral}
-use Rattle.ecf_texts.specs.LineLaws.{LinesFit}
+use Rattle.ecf_texts.specs.LineLaws.{LinesFit, LinesCallOnce}
 use Rattle.ecf_texts.proofs.LineParts.{ok_or_ok, parts_of, words_say}
 
 -- a number that was read is in its range
@@ -47,7 +47,7 @@ is_value typed Flag word value e = flag (bytes_eq word (116 ∷ 114 ∷ 117 ∷ 
   flag false false value e = grind arith
 is_value typed Addr word value e = object_within typed word value e
 
-both : (first : Option ℕ) (rest : Option (List ℕ)) (values : List ℕ) → option_and_then (λ v. option_map (λ vs. v ∷ vs) rest) first ≡ Some values → (v : ℕ) × (vs : List ℕ) × (first ≡ Some v) × (rest ≡ Some vs) × (v ∷ vs ≡ values)
+pub both : (first : Option ℕ) (rest : Option (List ℕ)) (values : List ℕ) → option_and_then (λ v. option_map (λ vs. v ∷ vs) rest) first ≡ Some values → (v : ℕ) × (vs : List ℕ) × (first ≡ Some v) × (rest ≡ Some vs) × (v ∷ vs ≡ values)
 both None rest values e = let none : ⊥ = cc in absurd none
 both (Some v) None values e = let none : ⊥ = cc in absurd none
 both (Some v) (Some vs) values e = (v, vs, refl, refl, grind arith)
@@ -60,15 +60,17 @@ are_values typed (ty ∷ params) (word ∷ more) values e =
     let p = both (value_of typed ty word) (values_of typed params more) values e in
     subst (λ vs. ArgumentsFit typed (ty ∷ params) vs) p.4 (is_value typed ty word p.0 p.2, are_values typed params more p.1 p.3)
 
+-- a name that passes a test was found, and passes
+pub there : (named : Option ℕ) (has : ℕ → Bool) (n : ℕ) → option_and_then (λ name. if has name then Some name else None) named ≡ Some n → (has n ≡ true) × (named ≡ Some n)
+there None has n e = let none : ⊥ = cc in absurd none
+there (Some m) has n e = let t = cond_some (has m) m n e in (subst (λ k. has k ≡ true) t.1 t.0, ap Some t.1)
+
 -- a method that was found is in the object, and its number is that of a name
 pub method_there : (typed : Typed) (object : ℕ) (word : List ℕ) (n : ℕ) → method_named typed object word ≡ Some n → IsSome (method_at typed object n) × (n < length typed.names)
 method_there typed object word n e =
     let t = there (number_named typed.names word) (λ name. is_some (method_at typed object name)) n e in
     let found = position-Some (bytes_eq word) typed.names n [] t.1 in
-    (t.0, found.0) where
-      there : (named : Option ℕ) (has : ℕ → Bool) (n : ℕ) → option_and_then (λ name. if has name then Some name else None) named ≡ Some n → (has n ≡ true) × (named ≡ Some n)
-      there None has n e = let none : ⊥ = cc in absurd none
-      there (Some m) has n e = let t = cond_some (has m) m n e in (subst (λ k. has k ≡ true) t.1 t.0, ap Some t.1)
+    (t.0, found.0)
 
 there_is : {X : Type 0} (xs : List X) (n : ℕ) → n < length xs → is_some (slice_get xs n) ≡ true
 there_is [] n h = absurd (omega (arith, h))
@@ -80,7 +82,7 @@ signed : (typed : Typed) (o : Option Signature) (values : List ℕ) → IsSome o
 signed typed None values h fit = let none : ⊥ = cc in absurd none
 signed typed (Some s) values h fit = fit
 
-as_many : (same : Bool) (m : Reading (List ℕ)) (values : List ℕ) → (if same then m else Err Arity) ≡ Ok values → m ≡ Ok values
+pub as_many : (same : Bool) (m : Reading (List ℕ)) (values : List ℕ) → (if same then m else Err Arity) ≡ Ok values → m ≡ Ok values
 as_many true m values e = e
 as_many false m values e = let none : ⊥ = cc in absurd none
 
@@ -112,3 +114,15 @@ fits_words typed (a ∷ b ∷ d ∷ f ∷ args) tx numbered e =
 
 pub lines_fit : LinesFit
 lines_fit typed line tx numbered e = let said = words_say typed line tx e in fits_words typed (words line) tx numbered said.1
+
+calls_once : (typed : Typed) (ws : List (List ℕ)) (tx : Tx) → tx_of_words typed ws ≡ Ok tx → length tx.calls ≡ 1
+calls_once typed [] tx e = let no : ⊥ = cc in absurd no
+calls_once typed (a ∷ []) tx e = let no : ⊥ = cc in absurd no
+calls_once typed (a ∷ b ∷ []) tx e = let no : ⊥ = cc in absurd no
+calls_once typed (a ∷ b ∷ d ∷ []) tx e = let no : ⊥ = cc in absurd no
+calls_once typed (a ∷ b ∷ d ∷ f ∷ args) tx e =
+    let p = parts_of typed a b d f args tx e in
+    subst (λ (t : Tx). length t.calls ≡ 1) p.whole refl
+
+pub lines_call_once : LinesCallOnce
+lines_call_once typed line tx e = let said = words_say typed line tx e in calls_once typed (words line) tx said.1

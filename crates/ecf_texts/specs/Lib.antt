@@ -6,4 +6,5 @@ pub mod Cells
 pub mod Journal
 pub mod Line
 pub mod OneLine
+pub mod Spelled
 pub mod LineLaws
