@@ -4,6 +4,7 @@ ghost use Rattle.std.specs.Prelude.{◌≡◌, ◌<◌, length, map, IfOk, IfErr
 ghost use Rattle.std.specs.List.{list_any};
 ghost use Rattle.ecf_lang.specs.Fits.{Fits};
 ghost use Rattle.ecf_texts.specs.Line.{IsNumbered, Reading, words, is_empty, is_skipped, object_named, method_named, flag_named, value_of, values_of, arguments_of, tx_of_words, line_of};
+ghost use Rattle.ecf_texts.specs.Spelled.{SpellsTx};
 ghost use Rattle.ecf_stream.specs.Lookup.{Finds};
 ghost use Rattle.ecf_stream.specs.StreamFault.{cause_of, Tells};
 
@@ -22,6 +23,7 @@ pub fn read_tx(alloc: Global, typed: &Typed, line: &[u8]) -> Result<Option<Tx>, 
     requires { IsNumbered typed.now }
     ensures read { IfOk result (λ said. line_of typed.now line.now ≡ Ok said) }
     ensures refused { IfErr result (λ e. IfSome (cause_of e) (λ cause. line_of typed.now line.now ≡ Err cause)) }
+    ensures spells { IfOk result (λ said. IfSome said (SpellsTx typed.now line.now)) }
     ensures fits { IfOk result (λ said. IfSome said (Fits typed.now)) }
 {
     let lookup = Lookup::new(alloc, typed)?;
@@ -39,6 +41,7 @@ pub fn read_tx_by(
     requires found { Finds typed.now lookup.now }
     ensures read { IfOk result (λ said. line_of typed.now line.now ≡ Ok said) }
     ensures refused { IfErr result (λ e. IfSome (cause_of e) (λ cause. line_of typed.now line.now ≡ Err cause)) }
+    ensures spells { IfOk result (λ said. IfSome said (SpellsTx typed.now line.now)) }
     ensures fits { IfOk result (λ said. IfSome said (Fits typed.now)) }
 {
     what_it_says(alloc, typed, lookup, line)
