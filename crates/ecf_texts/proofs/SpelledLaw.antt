@@ -1,11 +1,11 @@
 -- What a line says is what it spells.
-use Rattle.std.proofs.Common.{◌≡◌, ◌≢◌, ◌⊎◌, inl, inr, ◌≤◌, ◌<◌, ◌+◌, ℕ, zero, suc, ◌-◌, ◌^◌, Bool, true, false, cond, ◌&&◌, ◌||◌, if◌then◌else◌, List, [], ◌∷◌, ◌++◌, Option, Some, None, Result, Ok, Err, length, map, get_or, refl, sym, ap, subst, ◌∙◌, arith, rules, nat_eq}
-use Rattle.std.specs.Prelude.{◌==◌, IsSome, is_some, slice_get, position, option_and_then, nat_le, codes}
-use Rattle.std.specs.List.{list_any, slice_split, onto_first, join_with_byte, position_or_len}
-use Rattle.std.specs.Option.{option_map, ok_or}
+use Rattle.std.proofs.Common.{◌≡◌, ◌⊎◌, inl, inr, ℕ, ◌-◌, ◌^◌, Bool, true, false, cond, ◌&&◌, if◌then◌else◌, List, [], ◌∷◌, Some, None, Ok, length, get_or, refl, sym, ap, subst, ◌∙◌, arith}
+use Rattle.std.specs.Prelude.{◌==◌, is_some, nat_le, codes}
+use Rattle.std.specs.List.{list_any, onto_first, join_with_byte}
+use Rattle.std.specs.Option.{ok_or}
 use Rattle.std.specs.Str.{bytes_eq}
 use Rattle.std.specs.Cmp.Lexicographic.{same_text, other_text}
-use Rattle.std.proofs.lemmas.Option.{slice_get-get_or, get_or_from_slice_get, slice_get_within, cond_some}
+use Rattle.std.proofs.lemmas.Option.{slice_get-get_or, get_or_from_slice_get}
 use Rattle.std.proofs.lemmas.List.Quantifiers.{position-Some}
 use Rattle.std.proofs.lemmas.List.Splits.{join_with_byte-slice_split}
 use Rattle.ecf_lang.specs.declared.tree.Ty.{Ty}
@@ -13,12 +13,12 @@ use Rattle.ecf_lang.specs.declared.tree.Ty.TheVariants.{Num, Flag, Addr}
 use Rattle.ecf_lang.specs.declared.typed.Typed.{Typed}
 use Rattle.ecf_lang.specs.declared.tx.Tx.{Tx}
 use Rattle.ecf_lang.specs.declared.tx.TxCall.{TxCall}
-use Rattle.ecf_lang.specs.declared.receipt.StopCause.TheVariants.{Arity, Arg}
+use Rattle.ecf_lang.specs.declared.receipt.StopCause.TheVariants.{Arg}
 use Rattle.ecf_lang.specs.Fits.{method_at}
 use Rattle.ecf_texts.specs.Words.{params_of}
-use Rattle.ecf_texts.specs.Line.{Reading, words, is_empty, is_numeral, number_value, number_within, number_named, object_names, object_named, method_named, value_of, values_of, arguments_of, tx_of_words, line_of}
-use Rattle.ecf_texts.specs.Spelled.{has_space, SpellsNumber, IsNamed, SpellsValue, SpellsValues, SpellsCall, SpellsTx}
-use Rattle.ecf_texts.proofs.LineParts.{ok_or_ok, Parts, parts_of, words_say}
+use Rattle.ecf_texts.specs.Line.{words, is_numeral, number_value, number_within, number_named, object_names, value_of, values_of, tx_of_words, line_of}
+use Rattle.ecf_texts.specs.Spelled.{has_space, SpellsNumber, IsNamed, SpellsValue, SpellsValues, SpellsTx}
+use Rattle.ecf_texts.proofs.LineParts.{ok_or_ok, parts_of, words_say}
 use Rattle.ecf_texts.proofs.LinesFit.{in_range, both, there, as_many}
 
 -- no word of a line has a space in it
@@ -28,6 +28,7 @@ apart_words (x ∷ xs) = step (x == 32) x (words xs) (λ is. is) (apart_words xs
   front : (x : ℕ) (parts : List (List ℕ)) → (x == 32) ≡ false → list_any has_space parts ≡ false → list_any has_space (onto_first x parts) ≡ false
   front x [] e h = rw e refl
   front x (part ∷ parts) e h = rw e h
+
   step : (b : Bool) (x : ℕ) (parts : List (List ℕ)) → (⊥ → ⊥) → list_any has_space parts ≡ false → b ≡ (x == 32) → list_any has_space (cond b ([] ∷ parts) (onto_first x parts)) ≡ false
   step true x parts k h e = h
   step false x parts k h e = front x parts (sym e) h
@@ -78,7 +79,11 @@ words_spelled typed line (a ∷ b ∷ d ∷ f ∷ args) tx is e =
     let limit = in_range 1 1000000 f p.limit p.limit_is in
     let read = ok_or_ok (values_of typed (params_of typed p.name) args) Arg p.values (as_many (length args == length (params_of typed p.name)) (ok_or (values_of typed (params_of typed p.name) args) Arg) p.values p.values_are) in
     subst (λ t. SpellsTx typed line t) p.whole (record {
-      submitter = a; object = b; method = d; fuel = f; args = args;
+      submitter = a;
+      object = b;
+      method = d;
+      fuel = f;
+      args = args;
       call = asked;
       line_is = sym (join_with_byte-slice_split 32 line) ∙ ap (join_with_byte 32) is;
       full = p.full;

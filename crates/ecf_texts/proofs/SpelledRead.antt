@@ -1,9 +1,9 @@
 -- What a line spells is what it says.
-use Rattle.std.proofs.Common.{◌≡◌, ◌≢◌, ◌⊎◌, inl, inr, ◌≤◌, ◌<◌, ◌+◌, ℕ, zero, suc, ◌-◌, ◌^◌, Bool, true, false, not, cond, ◌&&◌, ◌||◌, if◌then◌else◌, List, [], ◌∷◌, ◌++◌, Option, Some, None, Result, Ok, Err, length, map, get_or, refl, sym, ap, subst, ◌∙◌, arith, rules, nat_eq, ltb}
-use Rattle.std.specs.Prelude.{◌==◌, IsSome, is_some, slice_get, position, option_and_then, nat_le, codes}
+use Rattle.std.proofs.Common.{◌≡◌, ◌≢◌, inl, inr, ◌≤◌, ◌<◌, ℕ, ◌-◌, ◌^◌, Bool, true, false, not, cond, ◌&&◌, ◌||◌, if◌then◌else◌, List, [], ◌∷◌, ◌++◌, Option, Some, None, Ok, Err, length, get_or, refl, sym, ap, subst, ◌∙◌, arith, ltb}
+use Rattle.std.specs.Prelude.{◌==◌, is_some, option_and_then, nat_le}
 use Rattle.std.specs.Bool.{MatchBool}
-use Rattle.std.specs.List.{list_any, slice_split, onto_first, join_with_byte, position_or_len}
-use Rattle.std.specs.Option.{option_map, ok_or}
+use Rattle.std.specs.List.{list_any, onto_first, join_with_byte, position_or_len}
+use Rattle.std.specs.Option.{ok_or}
 use Rattle.std.specs.Str.{bytes_eq}
 use Rattle.std.specs.Cmp.Lexicographic.{told_text}
 use Rattle.std.proofs.lemmas.Option.{slice_get-get_or, get_or_from_slice_get, slice_get_within}
@@ -13,11 +13,11 @@ use Rattle.ecf_lang.specs.declared.tree.Ty.TheVariants.{Num, Flag, Addr}
 use Rattle.ecf_lang.specs.declared.typed.Typed.{Typed}
 use Rattle.ecf_lang.specs.declared.tx.Tx.{Tx}
 use Rattle.ecf_lang.specs.declared.tx.TxCall.{TxCall}
-use Rattle.ecf_lang.specs.declared.receipt.StopCause.TheVariants.{Form, Object, Method, Fuel, Arity, Arg}
+use Rattle.ecf_lang.specs.declared.receipt.StopCause.TheVariants.{Arity, Arg}
 use Rattle.ecf_lang.specs.Fits.{method_at}
 use Rattle.ecf_texts.specs.Words.{params_of}
 use Rattle.ecf_texts.specs.Line.{Reading, ◌>>=◌, words, is_empty, is_skipped, is_numeral, number_value, number_within, number_named, object_names, object_named, method_named, value_of, values_of, arguments_of, tx_of_words, line_of}
-use Rattle.ecf_texts.specs.Spelled.{has_space, SpellsNumber, IsNamed, SpellsValue, SpellsValues, SpellsCall, SpellsTx}
+use Rattle.ecf_texts.specs.Spelled.{has_space, SpellsNumber, IsNamed, SpellsValue, SpellsValues, SpellsTx}
 
 -- two tests that both fail
 neither : (a b : Bool) → (a || b) ≡ false → (a ≡ false) × (b ≡ false)
@@ -67,12 +67,12 @@ name_read : (names : List (List ℕ)) (word : List ℕ) (n : ℕ) → IsNamed na
 name_read names word n named =
     let within = slice_get_within names n word named.there in
     let place : position_or_len (bytes_eq word) names ≡ n = position_or_len_is (bytes_eq word) names n [] (omega (arith, within))
-        (λ k below. let inside : k < length names = omega (arith, within, below) in
-          differs word (get_or names k []) (λ same. named.first k below (slice_get-get_or names k [] inside ∙ ap Some (sym same))))
-        (λ inside. equals word (get_or names n []) (sym (get_or_from_slice_get names n word [] named.there))) in
+    (λ k below. let inside : k < length names = omega (arith, within, below) in
+    differs word (get_or names k []) (λ same. named.first k below (slice_get-get_or names k [] inside ∙ ap Some (sym same))))
+    (λ inside. equals word (get_or names n []) (sym (get_or_from_slice_get names n word [] named.there))) in
     ap (λ i. cond (ltb i (length names)) (Some i) None) place ∙ found n (length names) within where
-  found : (n len : ℕ) → n < len → cond (ltb n len) (Some n) None ≡ Some n
-  found n len h = grind arith
+      found : (n len : ℕ) → n < len → cond (ltb n len) (Some n) None ≡ Some n
+      found n len h = grind arith
 
 method_read : (named : Option ℕ) (has : ℕ → Bool) (n : ℕ) → named ≡ Some n → has n ≡ true → option_and_then (λ name. if has name then Some name else None) named ≡ Some n
 method_read named has n e h = rw (e, h) refl
@@ -140,8 +140,8 @@ spelled_is_said typed line tx s =
     let params = params_of typed s.call.method in
     let read = values_read typed params s.args s.call.args s.call_is.args_are in
     let args_are : arguments_of typed s.call.method s.args ≡ Ok s.call.args =
-        ap (λ b. if b then ok_or (values_of typed params s.args) Arg else Err Arity) (same_length (length s.args) (length params) read.lengths)
-        ∙ ap (λ o. ok_or o Arg) read.values_are in
+    ap (λ b. if b then ok_or (values_of typed params s.args) Arg else Err Arity) (same_length (length s.args) (length params) read.lengths)
+    ∙ ap (λ o. ok_or o Arg) read.values_are in
     let fits = s.submitter_fits in
     let from_is = number_read 0 (2 ^ 32 - 1) s.submitter tx.submitter s.submitter_is (omega arith) (omega (arith, fits)) in
     let to_is = name_read (object_names typed) s.object s.call.object s.call_is.object_is in
