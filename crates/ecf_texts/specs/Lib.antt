@@ -4,3 +4,7 @@ pub mod Entries
 pub mod Stops
 pub mod Cells
 pub mod Journal
+pub mod Line
+pub mod OneLine
+pub mod Spelled
+pub mod LineLaws

@@ -1,0 +1,3 @@
+pub mod StreamFault
+pub mod Lookup
+pub mod OneLine

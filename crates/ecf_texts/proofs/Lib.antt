@@ -1,0 +1,4 @@
+pub mod LineParts
+pub mod LinesFit
+pub mod SpelledLaw
+pub mod SpelledRead

@@ -1,0 +1,32 @@
+-- What holds of every line.
+use Rattle.std.specs.Prelude.{◌≡◌, ℕ, List, length, Some, Ok}
+use Rattle.ecf_lang.specs.declared.typed.Typed.{Typed}
+use Rattle.ecf_lang.specs.declared.tx.Tx.{Tx}
+use Rattle.ecf_lang.specs.Fits.{Fits}
+use Rattle.ecf_texts.specs.Line.{line_of, IsNumbered}
+use Rattle.ecf_texts.specs.OneLine.{IsOneLine}
+use Rattle.ecf_texts.specs.Spelled.{SpellsTx}
+
+-- the transaction that a line says fits the contract
+abbrev pub LinesFit : Type 0
+LinesFit = (typed : Typed) (line : List ℕ) (tx : Tx) → IsNumbered typed → line_of typed line ≡ Ok (Some tx) → Fits typed tx
+
+-- a line says one call
+abbrev pub LinesCallOnce : Type 0
+LinesCallOnce = (typed : Typed) (line : List ℕ) (tx : Tx) → line_of typed line ≡ Ok (Some tx) → length tx.calls ≡ 1
+
+-- the transaction of a stream of one line fits the contract
+abbrev pub OneLineFits : Type 0
+OneLineFits = (typed : Typed) (bytes : List ℕ) (tx : Tx) → IsNumbered typed → IsOneLine typed bytes tx → Fits typed tx
+
+-- and has one call
+abbrev pub OneLineCallsOnce : Type 0
+OneLineCallsOnce = (typed : Typed) (bytes : List ℕ) (tx : Tx) → IsOneLine typed bytes tx → length tx.calls ≡ 1
+
+-- the transaction that a line says is spelled by it
+abbrev pub SaidIsSpelled : Type 0
+SaidIsSpelled = (typed : Typed) (line : List ℕ) (tx : Tx) → line_of typed line ≡ Ok (Some tx) → SpellsTx typed line tx
+
+-- a transaction that a line spells is the one that it says
+abbrev pub SpelledIsSaid : Type 0
+SpelledIsSaid = (typed : Typed) (line : List ℕ) (tx : Tx) → SpellsTx typed line tx → line_of typed line ≡ Ok (Some tx)

@@ -1,0 +1,27 @@
+//! What holds of every line, whoever reads it.
+
+ghost use Rattle.ecf_texts.specs.LineLaws.{LinesFit, LinesCallOnce, OneLineFits, OneLineCallsOnce, SaidIsSpelled, SpelledIsSaid};
+
+/// The transaction that a line says fits the contract: its object has the method, and its arguments and its fuel
+/// limit are right.
+pub fn lines_fit()
+    ensures { LinesFit }
+{}
+
+/// A line says a transaction exactly where its words, joined by single spaces, spell that transaction. So it spells
+/// one at most, and none where it is skipped or has a fault.
+pub fn lines_spell()
+    ensures said { SaidIsSpelled }
+    ensures spelled { SpelledIsSaid }
+{}
+
+/// The transaction that a line says has one call.
+pub fn lines_call_once()
+    ensures { LinesCallOnce }
+{}
+
+/// The transaction of a stream of one line fits the contract and has one call.
+pub fn one_line_fits()
+    ensures fits { OneLineFits }
+    ensures call { OneLineCallsOnce }
+{}
