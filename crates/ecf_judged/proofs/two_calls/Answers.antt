@@ -1,0 +1,13 @@
+use Rattle.std.proofs.Common.{[]}
+use Rattle.ecf_cases.specs.Counter.{bump_twice, counted_twice, counter}
+use Rattle.ecf_cases.proofs.CounterProof.{counts_twice}
+use Rattle.ecf_judged.proofs.Judged.{computing, left, receipt}
+use Rattle.ecf_judged.proofs.two_calls.Goals as goal
+
+pub returns-clause-is_committed : goal.returns-clause-is_committed
+unfolding computing
+returns-clause-is_committed c = receipt counter [] bump_twice counted_twice counts_twice
+
+pub returns-clause-store_changes : goal.returns-clause-store_changes
+unfolding computing
+returns-clause-store_changes c = left counter [] bump_twice counted_twice counts_twice
