@@ -15,7 +15,7 @@ ghost use Rattle.ecf_verdicts.specs.Cases.{order};
 ghost use Rattle.ecf_verdicts.specs.Receipts.{receipt_on, next, serial};
 ghost use Rattle.ecf_judged.specs.Outcomes.{SwapsBringTogether, NoSwapsBringTogether, IsNotTogether};
 
-/// A bank that pays before it clears the debt: vetoed, since each withdrawal has steps that must come before the other's.
+/// A bank that pays before it clears the debt: vetoed, since each withdrawal must come before the other.
 pub fn bank_that_pays_first()
     ensures is_vetoed { receipt_on bank.pays_first (genesis bank.pays_first) bank.withdraw ≡ Vetoed 0 8 (0 ∷ 2 ∷ []) 136 }
     ensures store_stays { next bank.pays_first (genesis bank.pays_first) bank.withdraw ≡ genesis bank.pays_first }
