@@ -6,7 +6,6 @@ use Rattle.std.specs.Str.{bytes_eq}
 use Rattle.std.proofs.lemmas.List.Elements.{All-nil, All-cons}
 use Rattle.ecf_lang.specs.declared.tree.Op.{Op}
 use Rattle.ecf_lang.specs.declared.tree.Op.TheVariants as op
-use Rattle.ecf_lang.specs.declared.tree.Tree.{Tree}
 use Rattle.ecf_lang.specs.declared.tree.ObjectDecl.{ObjectDecl}
 use Rattle.ecf_lang.specs.declared.tree.Member.{Member}
 use Rattle.ecf_lang.specs.declared.tree.Stmt.{Stmt, Stmt-F, out-Stmt}
@@ -16,12 +15,11 @@ use Rattle.ecf_lang.specs.declared.tree.CallExpr.{CallExpr}
 use Rattle.ecf_lang.specs.declared.typed.Typed.{Typed}
 use Rattle.ecf_lang.specs.declared.typed.TypedExpr.{TypedExpr}
 use Rattle.ecf_lang.specs.declared.typed.TypedExpr.TheVariants as typed
-use Rattle.ecf_lang.specs.declared.typed.TypedStmt.{TypedStmt, TypedStmt-F, roll-TypedStmt, out-TypedStmt, out-roll-TypedStmt}
+use Rattle.ecf_lang.specs.declared.typed.TypedStmt.{TypedStmt, out-TypedStmt, out-roll-TypedStmt}
 use Rattle.ecf_lang.specs.declared.typed.TypedStmt.TheVariants as does
-use Rattle.ecf_lang.specs.declared.typed.Place.TheVariants as place
 use Rattle.ecf_lang.specs.declared.typed.Assignee.TheVariants as assignee
 use Rattle.ecf_lang.specs.Genesis.{genesis}
-use Rattle.ecf_small.specs.Small.{expr_of, stmt_layer, stmt_of, stmts_of, both, all_of, added, one_method, small_field, method_of, with_parts, in_this_order, members_of, typed_of}
+use Rattle.ecf_small.specs.Small.{expr_of, stmt_layer, stmt_of, stmts_of, both, all_of, added, one_method, small_field, method_of, in_this_order, members_of, typed_of}
 use Rattle.ecf_small.specs.Form.{IsAdded, HasSums, IsSmallExpr, SmallLayer, IsSmallStmt, IsSmall, HasForm, BeginsEmpty}
 use Rattle.ecf_small.proofs.Forms.{expr_roll}
 
@@ -125,7 +123,7 @@ members_small object [] t h = none_is h
 members_small object (only ∷ []) t h = none_is h
 members_small object (a ∷ b ∷ []) t h =
     either_small _ (in_this_order object (small_field a) (method_of b)) (in_this_order object (small_field b) (method_of a)) t
-      (order_small object (small_field a) (method_of b)) (order_small object (small_field b) (method_of a)) h
+    (order_small object (small_field a) (method_of b)) (order_small object (small_field b) (method_of a)) h
 members_small object (a ∷ b ∷ c ∷ others) t h = none_is h
 
 pub has_form : HasForm

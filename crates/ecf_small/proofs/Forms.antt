@@ -1,12 +1,11 @@
 -- The forms of small expressions, one equation a form.
 use Rattle.std.proofs.Common.{◌≡◌, ℕ, ◌+◌, ◌<◌, ◌≤◌, List, [], ◌∷◌, ◌++◌, length, drop, get_or, map, Option, Some, None, refl, ap, sym, ◌∙◌, append_assoc}
-use Rattle.std.specs.Prelude.{Bool, true, false, if◌then◌else◌}
+use Rattle.std.specs.Prelude.{if◌then◌else◌}
 use Rattle.std.specs.Str.{bytes_eq}
 use Rattle.std.specs.Option.{option_map}
 use Rattle.std.proofs.lemmas.List.{drop_more, drop_all}
 use Rattle.ecf_lang.specs.declared.tree.Op.{Op}
-use Rattle.ecf_lang.specs.declared.tree.Op.TheVariants as op
-use Rattle.ecf_lang.specs.declared.tree.Expr.{Expr, Expr-F, fold-Expr, roll-Expr, out-Expr, roll-out-Expr, fold-roll-Expr, map-Expr}
+use Rattle.ecf_lang.specs.declared.tree.Expr.{Expr, Expr-F, roll-Expr, out-Expr, roll-out-Expr, fold-roll-Expr, map-Expr}
 use Rattle.ecf_lang.specs.declared.tree.Expr.TheVariants as expr
 use Rattle.ecf_lang.specs.declared.tree.CallExpr.{CallExpr, fold-CallExpr}
 use Rattle.ecf_lang.specs.declared.typed.TypedExpr.{TypedExpr}

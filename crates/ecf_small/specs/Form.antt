@@ -1,5 +1,5 @@
 -- What each small contract is made of.
-use Rattle.std.specs.Prelude.{◌≡◌, ℕ, Bool, IsTrue, List, [], Option, Some, All}
+use Rattle.std.specs.Prelude.{◌≡◌, ℕ, Bool, IsTrue, List, [], Some, All}
 use Rattle.ecf_lang.specs.declared.tree.Op.{Op}
 use Rattle.ecf_lang.specs.declared.tree.Op.TheVariants.{Add}
 use Rattle.ecf_lang.specs.declared.tree.Tree.{Tree}

@@ -1,17 +1,15 @@
 -- Small contracts: one object with one `num` field and one method without parameters that answers `num`, in either
 -- order; the method's body has assignments to the field and returns, over sums of numbers and the field.
-use Rattle.std.specs.Prelude.{◌≡◌, ◌==◌, ℕ, Bool, true, false, ◌&&◌, if◌then◌else◌, List, [], ◌∷◌, map, Option, Some, None, option_and_then, is_some}
-use Rattle.std.specs.Option.{option_map, option_map_or}
+use Rattle.std.specs.Prelude.{ℕ, Bool, true, false, if◌then◌else◌, List, [], ◌∷◌, map, Option, Some, None, is_some}
+use Rattle.std.specs.Option.{option_map}
 use Rattle.std.specs.Str.{bytes_eq}
 use Rattle.ecf_lang.specs.declared.tree.Op.{Op}
 use Rattle.ecf_lang.specs.declared.tree.Op.TheVariants as op
-use Rattle.ecf_lang.specs.declared.tree.Ty.{Ty}
 use Rattle.ecf_lang.specs.declared.tree.Ty.TheVariants.{Num, Flag, Addr}
 use Rattle.ecf_lang.specs.declared.tree.Tree.{Tree}
 use Rattle.ecf_lang.specs.declared.tree.ObjectDecl.{ObjectDecl}
 use Rattle.ecf_lang.specs.declared.tree.Member.{Member}
 use Rattle.ecf_lang.specs.declared.tree.Member.TheVariants.{Field, Map, Method}
-use Rattle.ecf_lang.specs.declared.tree.Param.{Param}
 use Rattle.ecf_lang.specs.declared.tree.Expr.{Expr, Expr-F, fold-Expr}
 use Rattle.ecf_lang.specs.declared.tree.CallExpr.{CallExpr-F}
 use Rattle.ecf_lang.specs.declared.tree.Stmt.{Stmt, Stmt-F, out-Stmt}
@@ -21,7 +19,7 @@ use Rattle.ecf_lang.specs.declared.typed.TypedExpr.{TypedExpr}
 use Rattle.ecf_lang.specs.declared.typed.TypedExpr.TheVariants as typed
 use Rattle.ecf_lang.specs.declared.typed.TypedStmt.{TypedStmt}
 use Rattle.ecf_lang.specs.declared.typed.TypedStmt.TheVariants as does
-use Rattle.ecf_lang.specs.declared.typed.TypedBlock.{TypedBlock, roll-TypedBlock}
+use Rattle.ecf_lang.specs.declared.typed.TypedBlock.{roll-TypedBlock}
 use Rattle.ecf_lang.specs.declared.typed.Place.TheVariants as place
 use Rattle.ecf_lang.specs.declared.typed.Assignee.TheVariants as assignee
 use Rattle.ecf_lang.specs.declared.typed.FieldKind.TheVariants as kind
@@ -105,14 +103,14 @@ stmts_of field stmts = all_of (map (stmt_of field) stmts)
 -- the typed form of an object with these statements as its method's body
 abbrev pub one_method : List ℕ → List ℕ → List ℕ → List TypedStmt → Typed
 one_method object field method stmts = record {
-    objects = record {
-      name = object;
-      fields = record { name = field; kind = kind.Plain Num; first = [] } ∷ [];
-      methods = record { name = 0; locals = 0; body = roll-TypedBlock (record { stmts = stmts }) } ∷ []
-    } ∷ [];
-    names = method ∷ [];
-    signatures = record { params = []; answer = Num } ∷ []
-  }
+  objects = record {
+    name = object;
+    fields = record { name = field; kind = kind.Plain Num; first = [] } ∷ [];
+    methods = record { name = 0; locals = 0; body = roll-TypedBlock (record { stmts = stmts }) } ∷ [];
+  } ∷ [];
+  names = method ∷ [];
+  signatures = record { params = []; answer = Num } ∷ [];
+}
 
 -- the name of a `num` field without an initial value
 abbrev pub small_field : Member → Option (List ℕ)

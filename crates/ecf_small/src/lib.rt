@@ -257,3 +257,6 @@ fn build_parts(
     }
     Ok(Some(built))
 }
+
+#[cfg(test)]
+mod tests;
