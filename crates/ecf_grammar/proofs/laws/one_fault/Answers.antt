@@ -1,0 +1,5 @@
+use Rattle.ecf_grammar.proofs.Readings.{one_fault}
+use Rattle.ecf_grammar.proofs.laws.one_fault.Goals as goal
+
+pub returns : goal.returns
+returns c = one_fault

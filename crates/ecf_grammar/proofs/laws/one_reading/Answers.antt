@@ -1,0 +1,5 @@
+use Rattle.ecf_grammar.proofs.Readings.{one_reading}
+use Rattle.ecf_grammar.proofs.laws.one_reading.Goals as goal
+
+pub returns : goal.returns
+returns c = one_reading

@@ -1,0 +1,5 @@
+use Rattle.ecf_grammar.proofs.Readings.{read_or_refused}
+use Rattle.ecf_grammar.proofs.laws.read_or_refused.Goals as goal
+
+pub returns : goal.returns
+returns c = read_or_refused

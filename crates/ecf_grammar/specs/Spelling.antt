@@ -1,0 +1,98 @@
+-- How words, signs, names and numbers are spelled, in bytes.
+use Rattle.std.specs.Prelude.{◌≡◌, ◌≢◌, ℕ, ◌+◌, ◌-◌, ◌*◌, ◌==◌, ◌||◌, Bool, IsTrue, List, [], ◌∷◌, fold, codes}
+use Rattle.std.specs.List.{list_all}
+use Rattle.std.specs.Char.{is_ascii_alphabetic, is_ascii_alphanumeric, is_ascii_digit}
+use Rattle.ecf_grammar.specs.declared.tokens.Kind.{Kind}
+use Rattle.ecf_grammar.specs.declared.tokens.Kind.TheVariants as kind
+use Rattle.ecf_grammar.specs.declared.tokens.Word.{Word}
+use Rattle.ecf_grammar.specs.declared.tokens.Word.TheVariants as word
+use Rattle.ecf_grammar.specs.declared.tokens.Sign.{Sign}
+use Rattle.ecf_grammar.specs.declared.tokens.Sign.TheVariants as sign
+
+-- the bytes of a reserved word
+abbrev pub spelling : Word → List ℕ
+spelling word.Object = codes "object"
+spelling word.Num = codes "num"
+spelling word.Flag = codes "flag"
+spelling word.Addr = codes "addr"
+spelling word.Map = codes "map"
+spelling word.Method = codes "method"
+spelling word.Let = codes "let"
+spelling word.If = codes "if"
+spelling word.Else = codes "else"
+spelling word.While = codes "while"
+spelling word.Return = codes "return"
+spelling word.Revert = codes "revert"
+spelling word.Call = codes "call"
+spelling word.SelfWord = codes "self"
+spelling word.Here = codes "here"
+spelling word.True = codes "true"
+spelling word.False = codes "false"
+spelling word.Try = codes "try"
+
+-- the bytes of a sign
+abbrev pub sign_text : Sign → List ℕ
+sign_text sign.OpenBrace = codes "{"
+sign_text sign.CloseBrace = codes "}"
+sign_text sign.OpenParen = codes "("
+sign_text sign.CloseParen = codes ")"
+sign_text sign.OpenBracket = codes "["
+sign_text sign.CloseBracket = codes "]"
+sign_text sign.Colon = codes ":"
+sign_text sign.Semicolon = codes ";"
+sign_text sign.Comma = codes ","
+sign_text sign.Dot = codes "."
+sign_text sign.Assign = codes "="
+sign_text sign.Equal = codes "=="
+sign_text sign.NotEqual = codes "!="
+sign_text sign.Less = codes "<"
+sign_text sign.LessEqual = codes "<="
+sign_text sign.Greater = codes ">"
+sign_text sign.GreaterEqual = codes ">="
+sign_text sign.Plus = codes "+"
+sign_text sign.Minus = codes "-"
+sign_text sign.Star = codes "*"
+sign_text sign.Slash = codes "/"
+sign_text sign.Percent = codes "%"
+sign_text sign.And = codes "&&"
+sign_text sign.Or = codes "||"
+sign_text sign.Not = codes "!"
+sign_text sign.Arrow = codes "->"
+
+-- a letter or an underscore
+abbrev pub is_name_start : ℕ → Bool
+is_name_start byte = is_ascii_alphabetic byte || byte == 95
+
+-- a letter, a digit or an underscore
+abbrev pub is_name_byte : ℕ → Bool
+is_name_byte byte = is_ascii_alphanumeric byte || byte == 95
+
+-- a space, tab, CR or LF
+abbrev pub is_blank : ℕ → Bool
+is_blank byte = (byte == 32 || byte == 9) || (byte == 13 || byte == 10)
+
+-- a letter or underscore, and then letters, digits and underscores
+abbrev pub IsIdentifier : List ℕ → Type 0
+IsIdentifier [] = ⊥
+IsIdentifier (first ∷ more) = IsTrue (is_name_start first) × IsTrue (list_all is_name_byte more)
+
+-- an identifier that isn't reserved
+pub record IsName (bytes : List ℕ) : Type 0 where
+  pub identifier : IsIdentifier bytes
+  pub free : (w : Word) → bytes ≢ spelling w
+
+-- one digit or more
+pub record IsDigits (bytes : List ℕ) : Type 0 where
+  pub some : bytes ≢ []
+  pub digits : IsTrue (list_all is_ascii_digit bytes)
+
+-- the value of decimal digits
+abbrev pub number_value : List ℕ → ℕ
+number_value digits = fold (λ value digit. 10 * value + (digit - 48)) 0 digits
+
+-- these bytes are spelled as a token of that kind, a number of whatever size
+abbrev pub IsLexeme : Kind → List ℕ → Type 0
+IsLexeme kind.Name bytes = IsName bytes
+IsLexeme (kind.Number value) bytes = IsDigits bytes × (number_value bytes ≡ value)
+IsLexeme (kind.Word w) bytes = bytes ≡ spelling w
+IsLexeme (kind.Sign s) bytes = bytes ≡ sign_text s
