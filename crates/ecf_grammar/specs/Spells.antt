@@ -14,7 +14,7 @@ use Rattle.ecf_lang.specs.declared.tree.Param.{Param}
 use Rattle.ecf_lang.specs.declared.tree.Expr.{Expr}
 use Rattle.ecf_lang.specs.declared.tree.Expr.TheVariants as expr
 use Rattle.ecf_lang.specs.declared.tree.CallExpr.{CallExpr}
-use Rattle.ecf_lang.specs.declared.tree.CallExpr.TheVariants as call
+use Rattle.ecf_lang.specs.declared.tree.CallExpr.TheVariants as called
 use Rattle.ecf_lang.specs.declared.tree.Stmt.{Stmt}
 use Rattle.ecf_lang.specs.declared.tree.Stmt.TheVariants as stmt
 use Rattle.ecf_lang.specs.declared.tree.Block.{Block, roll-Block}
@@ -132,10 +132,14 @@ mutual
     indexed : {n o a c : Numbered} {at at1 at2 : ℕ} {bytes : List ℕ} {key : Expr} → Is (NameOf bytes) n at → Is (SignOf sign.OpenBracket) o at1 → SpellsExpr a key → Is (SignOf sign.CloseBracket) c at2 → SpellsTarget (n ++ (o ++ (a ++ c))) (expr.At at bytes key)
     parenthesized : {o a c : Numbered} {at1 at2 : ℕ} {e : Expr} → Is (SignOf sign.OpenParen) o at1 → SpellsExpr a e → Is (SignOf sign.CloseParen) c at2 → SpellsTarget (o ++ (a ++ c)) e
 
-  -- invoke = "call" target "." NAME "(" [list(expr)] ")" | "self" "." NAME "(" [list(expr)] ")"
+  -- invoke = "call" external | "self" "." NAME arguments
   pub data SpellsInvoke : Numbered → CallExpr → Type 0 where
-    external : {w t d n a : Numbered} {at at1 name_at : ℕ} {called : Expr} {bytes : List ℕ} {args : List Expr} → Is (WordOf word.Call) w at → SpellsTarget t called → Is (SignOf sign.Dot) d at1 → Is (NameOf bytes) n name_at → SpellsArguments a args → SpellsInvoke (w ++ (t ++ (d ++ (n ++ a)))) (call.External at called name_at bytes args)
-    internal : {w d n a : Numbered} {at at1 name_at : ℕ} {bytes : List ℕ} {args : List Expr} → Is (WordOf word.SelfWord) w at → Is (SignOf sign.Dot) d at1 → Is (NameOf bytes) n name_at → SpellsArguments a args → SpellsInvoke (w ++ (d ++ (n ++ a))) (call.Internal at name_at bytes args)
+    call : {w a : Numbered} {at : ℕ} {c : CallExpr} → Is (WordOf word.Call) w at → SpellsExternal at a c → SpellsInvoke (w ++ a) c
+    internal : {w d n a : Numbered} {at at1 name_at : ℕ} {bytes : List ℕ} {args : List Expr} → Is (WordOf word.SelfWord) w at → Is (SignOf sign.Dot) d at1 → Is (NameOf bytes) n name_at → SpellsArguments a args → SpellsInvoke (w ++ (d ++ (n ++ a))) (called.Internal at name_at bytes args)
+
+  -- external = target "." NAME arguments, behind the word with that number
+  pub data SpellsExternal : ℕ → Numbered → CallExpr → Type 0 where
+    external : {t d n a : Numbered} {at at1 name_at : ℕ} {callee : Expr} {bytes : List ℕ} {args : List Expr} → SpellsTarget t callee → Is (SignOf sign.Dot) d at1 → Is (NameOf bytes) n name_at → SpellsArguments a args → SpellsExternal at (t ++ (d ++ (n ++ a))) (called.External at callee name_at bytes args)
 
   -- "(" [list(expr)] ")"
   pub data SpellsArguments : Numbered → List Expr → Type 0 where
@@ -171,28 +175,32 @@ mutual
   pub data SpellsStmt : Numbered → Stmt → Type 0 where
     -- "let" NAME ":" type "=" expr ";"
     let_ : {w n s t q e c : Numbered} {at at1 at2 at3 at4 : ℕ} {bytes : List ℕ} {kind : Ty} {value : Expr} → Is (WordOf word.Let) w at1 → Is (NameOf bytes) n at → Is (SignOf sign.Colon) s at2 → SpellsType t kind → Is (SignOf sign.Assign) q at3 → SpellsExpr e value → Is (SignOf sign.Semicolon) c at4 → SpellsStmt (w ++ (n ++ (s ++ (t ++ (q ++ (e ++ c)))))) (stmt.Let at bytes kind value)
-    -- "let" NAME ":" type "=" "try" target "." NAME "(" [list(expr)] ")" ";"
-    try_ : {w n s t q y e d m a c : Numbered} {at at1 at2 at3 at4 at5 at6 name_at : ℕ} {bytes method : List ℕ} {kind : Ty} {called : Expr} {args : List Expr} → Is (WordOf word.Let) w at1 → Is (NameOf bytes) n at → Is (SignOf sign.Colon) s at2 → SpellsType t kind → Is (SignOf sign.Assign) q at3 → Is (WordOf word.Try) y at4 → SpellsTarget e called → Is (SignOf sign.Dot) d at5 → Is (NameOf method) m name_at → SpellsArguments a args → Is (SignOf sign.Semicolon) c at6 → SpellsStmt (w ++ (n ++ (s ++ (t ++ (q ++ (y ++ (e ++ (d ++ (m ++ (a ++ c)))))))))) (stmt.Try at bytes kind (call.External at4 called name_at method args))
+    -- "let" NAME ":" type "=" "try" external ";"
+    try_ : {w n s t q y a c : Numbered} {at at1 at2 at3 at4 at5 : ℕ} {bytes : List ℕ} {kind : Ty} {invoked : CallExpr} → Is (WordOf word.Let) w at1 → Is (NameOf bytes) n at → Is (SignOf sign.Colon) s at2 → SpellsType t kind → Is (SignOf sign.Assign) q at3 → Is (WordOf word.Try) y at4 → SpellsExternal at4 a invoked → Is (SignOf sign.Semicolon) c at5 → SpellsStmt (w ++ (n ++ (s ++ (t ++ (q ++ (y ++ (a ++ c))))))) (stmt.Try at bytes kind invoked)
     -- NAME "=" expr ";"
     set : {n q e c : Numbered} {at at1 at2 : ℕ} {bytes : List ℕ} {value : Expr} → Is (NameOf bytes) n at → Is (SignOf sign.Assign) q at1 → SpellsExpr e value → Is (SignOf sign.Semicolon) c at2 → SpellsStmt (n ++ (q ++ (e ++ c))) (stmt.Set at bytes value)
     -- NAME "[" expr "]" "=" expr ";"
     set_at : {n o k d q e c : Numbered} {at at1 at2 at3 at4 : ℕ} {bytes : List ℕ} {key value : Expr} → Is (NameOf bytes) n at → Is (SignOf sign.OpenBracket) o at1 → SpellsExpr k key → Is (SignOf sign.CloseBracket) d at2 → Is (SignOf sign.Assign) q at3 → SpellsExpr e value → Is (SignOf sign.Semicolon) c at4 → SpellsStmt (n ++ (o ++ (k ++ (d ++ (q ++ (e ++ c)))))) (stmt.SetAt at bytes key value)
-    -- "if" expr block ("else" "if" expr block)* ["else" block]
-    if_ : {w e b r : Numbered} {at : ℕ} {cond : Expr} {body : Block} {arms : List (Expr × Block)} {last : Option Block} → Is (WordOf word.If) w at → SpellsExpr e cond → SpellsBlock b body → SpellsElse r arms last → SpellsStmt (w ++ (e ++ (b ++ r))) (stmt.If ((cond, body) ∷ arms) last)
-    -- "while" expr block
-    while : {w e b : Numbered} {at : ℕ} {cond : Expr} {body : Block} → Is (WordOf word.While) w at → SpellsExpr e cond → SpellsBlock b body → SpellsStmt (w ++ (e ++ b)) (stmt.While cond body)
+    -- "if" arm ("else" "if" arm)* ["else" block]
+    if_ : {w a r : Numbered} {at : ℕ} {first : Expr × Block} {arms : List (Expr × Block)} {last : Option Block} → Is (WordOf word.If) w at → SpellsArm a first → SpellsElse r arms last → SpellsStmt (w ++ (a ++ r)) (stmt.If (first ∷ arms) last)
+    -- "while" arm
+    while : {w a : Numbered} {at : ℕ} {cond : Expr} {body : Block} → Is (WordOf word.While) w at → SpellsArm a (cond, body) → SpellsStmt (w ++ a) (stmt.While cond body)
     -- "return" expr ";"
     return : {w e c : Numbered} {at at1 : ℕ} {value : Expr} → Is (WordOf word.Return) w at → SpellsExpr e value → Is (SignOf sign.Semicolon) c at1 → SpellsStmt (w ++ (e ++ c)) (stmt.Return value)
     -- "revert" expr ";"
     revert : {w e c : Numbered} {at at1 : ℕ} {value : Expr} → Is (WordOf word.Revert) w at → SpellsExpr e value → Is (SignOf sign.Semicolon) c at1 → SpellsStmt (w ++ (e ++ c)) (stmt.Revert value)
     -- invoke ";"
-    do_ : {a c : Numbered} {at : ℕ} {called : CallExpr} → SpellsInvoke a called → Is (SignOf sign.Semicolon) c at → SpellsStmt (a ++ c) (stmt.Do called)
+    do_ : {a c : Numbered} {at : ℕ} {invoked : CallExpr} → SpellsInvoke a invoked → Is (SignOf sign.Semicolon) c at → SpellsStmt (a ++ c) (stmt.Do invoked)
 
-  -- ("else" "if" expr block)* ["else" block]
+  -- arm = expr block
+  pub data SpellsArm : Numbered → Expr × Block → Type 0 where
+    arm : {e b : Numbered} {cond : Expr} {body : Block} → SpellsExpr e cond → SpellsBlock b body → SpellsArm (e ++ b) (cond, body)
+
+  -- ("else" "if" arm)* ["else" block]
   pub data SpellsElse : Numbered → List (Expr × Block) → Option Block → Type 0 where
     no_else : SpellsElse [] [] None
     else_ : {w b : Numbered} {at : ℕ} {body : Block} → Is (WordOf word.Else) w at → SpellsBlock b body → SpellsElse (w ++ b) [] (Some body)
-    else_if : {w i e b r : Numbered} {at at1 : ℕ} {cond : Expr} {body : Block} {arms : List (Expr × Block)} {last : Option Block} → Is (WordOf word.Else) w at → Is (WordOf word.If) i at1 → SpellsExpr e cond → SpellsBlock b body → SpellsElse r arms last → SpellsElse (w ++ (i ++ (e ++ (b ++ r)))) ((cond, body) ∷ arms) last
+    else_if : {w i a r : Numbered} {at at1 : ℕ} {first : Expr × Block} {arms : List (Expr × Block)} {last : Option Block} → Is (WordOf word.Else) w at → Is (WordOf word.If) i at1 → SpellsArm a first → SpellsElse r arms last → SpellsElse (w ++ (i ++ (a ++ r))) (first ∷ arms) last
 
 -- ---- members, objects, files
 
