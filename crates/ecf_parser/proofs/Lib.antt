@@ -3,3 +3,5 @@ pub mod Steps
 pub mod Expressions
 pub mod Statements
 pub mod Files
+pub mod Takes
+pub mod TakesExpressions
