@@ -22,8 +22,11 @@ via f e k = ap (λ t. and_then t f) e ∙ k
 pub seq : {A B : Type 0} {z : Outcome B} {x : A} (f : A → Parser B) (p : Parser A) (a b rest : Numbered) → p (a ++ (b ++ rest)) ≡ Ok (x, b ++ rest) → f x (b ++ rest) ≡ z → and_then (p ((a ++ b) ++ rest)) f ≡ z
 seq f p a b rest e k = ap (λ ls. and_then (p ls) f) (append_assoc a b rest) ∙ (ap (λ t. and_then t f) e ∙ k)
 
-pub no_less : (p q : Bool) {A : Type 0} (x y : A) → p ≡ false → cond p x y ≡ y
-no_less p q x y e = ap (λ b. cond b x y) e
+pub when_no : {A : Type 0} {z : Outcome A} (test : Option Kind → Bool) (p q : Parser A) (ls : Numbered) → test (next ls) ≡ false → q ls ≡ z → when test p q ls ≡ z
+when_no test p q ls e k = ap (λ b. cond b (p ls) (q ls)) e ∙ k
+
+pub when_yes : {A : Type 0} {z : Outcome A} (test : Option Kind → Bool) (p q : Parser A) (ls : Numbered) → test (next ls) ≡ true → p ls ≡ z → when test p q ls ≡ z
+when_yes test p q ls e k = ap (λ b. cond b (p ls) (q ls)) e ∙ k
 
 -- ---- single lexemes
 
