@@ -34,11 +34,11 @@ constant_law : {N : ℕ} → Lawful N SpellsConst constant constant
 unfolding constant
 constant_law = chosen const_by const_by const_law_by
 
-entry_law : {N : ℕ} → Lawful N SpellsEntry entry entry
+pub entry_law : {N : ℕ} → Lawful N SpellsEntry entry entry
 unfolding entry
 entry_law = bind constant_law (λ a key r. bind (of_sign s.Colon) (λ c at p. last (λ v. (key, v)) constant_law (λ b v t. SpellsEntry.entry r p t)))
 
-param_law : {N : ℕ} → Lawful N SpellsParam param param
+pub param_law : {N : ℕ} → Lawful N SpellsParam param param
 unfolding param
 param_law = bind of_name (λ n x nm. bind (of_sign s.Colon) (λ c at p. last (λ k. record { at = x.0; name = x.1; ty = k }) type_law (λ t k r. SpellsParam.param nm p r)))
 

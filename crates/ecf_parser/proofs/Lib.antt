@@ -5,3 +5,5 @@ pub mod Statements
 pub mod Files
 pub mod Takes
 pub mod TakesExpressions
+pub mod TakesStatements
+pub mod TakesFiles
