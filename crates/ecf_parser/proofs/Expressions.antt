@@ -15,7 +15,7 @@ use Rattle.ecf_grammar.specs.Spells.{Is, either_of, both_of, sum_of, product_of,
 use Rattle.ecf_grammar.specs.Spells.Is.{is}
 use Rattle.ecf_parser.specs.Parsers.{Outcome, Parser, ◌>>=◌, pure, refuse, choose, when, is_sign, is_word, sign, word, name, number, eat_sign, eat_word, operator, fix, each, chain, until, listed}
 use Rattle.ecf_parser.specs.Descent.{arguments, indexed, target_by, target, external, internal, invoke_by, invoke, atom_by, atom, unary, product, sum, compared, comparison, both, either, expr}
-use Rattle.ecf_parser.proofs.Lawful.{append_nil, Completes, Good, Lawful, self, fewer, bind, bind_less, last, nothing, refused, widen, chosen, tested, knot, knot_is}
+use Rattle.ecf_parser.proofs.Lawful.{append_nil, Completes, Good, Lawful, fewer, bind, bind_less, last, nothing, refused, widen, chosen, tested, knot, knot_is}
 use Rattle.ecf_parser.proofs.Steps.{Eaten, Operator, Named, Numeral, less, of_sign, of_word, of_name, of_number, of_eat_sign, of_operator, of_each, of_chain, of_listed}
 use Rattle.ecf_parser.proofs.Steps.Eaten.{eaten, left}
 use Rattle.ecf_parser.proofs.Steps.Operator.{found, absent}
@@ -128,4 +128,4 @@ expr_law N = knot {S = SpellsExpr} expr_turn some_expr (λ M i j p q _ k. either
 -- an expression is read by the reader of expressions in brackets
 pub expr_is : (ls : Numbered) → expr ls ≡ either expr ls
 unfolding expr expr_turn
-expr_is ls = knot_is {S = SpellsExpr} expr_turn some_expr (λ M i j p q _ k. either_law M p q k) refuse (refused {N = 0} some_expr).good ls
+expr_is ls = knot_is {S = SpellsExpr} expr_turn some_expr (λ M i j p q _ k. either_law M p q k) refuse (λ M. refused some_expr) ls

@@ -19,7 +19,7 @@ use Rattle.ecf_grammar.specs.Spells.{Is, SpellsType, SpellsBlock, SpellsConst, S
 use Rattle.ecf_grammar.specs.Spells.Is.{is}
 use Rattle.ecf_parser.specs.Parsers.{Outcome, Parser, ◌>>=◌, pure, refuse, choose, when, is_sign, is_word, sign, word, name, number, eat_sign, eat_word, operator, fix, each, chain, until, listed}
 use Rattle.ecf_parser.specs.Descent.{type_, block, const_by, constant, entry, param, first_by, first, entries_by, entries, field, map, method, member_by, member, object, at_end, file}
-use Rattle.ecf_parser.proofs.Lawful.{append_nil, Completes, Good, Lawful, self, fewer, bind, bind_less, last, nothing, refused, widen, chosen, tested}
+use Rattle.ecf_parser.proofs.Lawful.{append_nil, Completes, Good, Lawful, fewer, bind, bind_less, last, nothing, refused, widen, chosen, tested}
 use Rattle.ecf_parser.proofs.Steps.{Eaten, Named, is_len, of_sign, of_word, of_name, of_number, of_eat_sign, of_until, of_listed}
 use Rattle.ecf_parser.proofs.Steps.Eaten.{eaten, left}
 use Rattle.ecf_parser.proofs.Statements.{type_law, block_law}

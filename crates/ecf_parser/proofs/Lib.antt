@@ -7,3 +7,5 @@ pub mod Takes
 pub mod TakesExpressions
 pub mod TakesStatements
 pub mod TakesFiles
+pub mod Cursors
+pub mod Loops

@@ -17,7 +17,7 @@ use Rattle.ecf_grammar.specs.Spells.{Is, SpellsExpr, SpellsInvoke, SpellsExterna
 use Rattle.ecf_grammar.specs.Spells.Is.{is}
 use Rattle.ecf_parser.specs.Parsers.{Outcome, Parser, ◌>>=◌, pure, refuse, choose, when, is_sign, is_word, sign, word, name, number, eat_sign, eat_word, operator, fix, each, chain, until, listed}
 use Rattle.ecf_parser.specs.Descent.{external, invoke, expr, type_by, type_, value, let_value, let_, set_by, set, closed, arm, else_by, else_turn_by, else_turn, elses, if_, while, stmt_by, stmt, braced, block}
-use Rattle.ecf_parser.proofs.Lawful.{append_nil, Completes, Good, Lawful, self, fewer, bind, bind_less, last, nothing, refused, widen, chosen, tested, knot, knot_is}
+use Rattle.ecf_parser.proofs.Lawful.{append_nil, Completes, Good, Lawful, fewer, bind, bind_less, last, nothing, refused, widen, chosen, tested, knot, knot_is}
 use Rattle.ecf_parser.proofs.Steps.{Eaten, Named, less, is_len, of_sign, of_word, of_name, of_eat_sign, of_eat_word, of_until}
 use Rattle.ecf_parser.proofs.Steps.Eaten.{eaten, left}
 use Rattle.ecf_parser.proofs.Expressions.{external_law, invoke_law, expr_law}
@@ -113,7 +113,7 @@ elses_law : (N : ℕ) (i j : Parser Block) → Lawful N SpellsBlock i j → Lawf
 unfolding elses
 elses_law N i j h = knot else_turn (λ at. ([], ([], None), no_elses)) else_turn_law N i j h
 
-pub elses_is : (i : Parser Block) → ((ls : Numbered) → Good SpellsBlock ls (i ls)) → (ls : Numbered) → elses i ls ≡ else_turn i (elses i) ls
+pub elses_is : (i : Parser Block) → ((N : ℕ) → Lawful N SpellsBlock i i) → (ls : Numbered) → elses i ls ≡ else_turn i (elses i) ls
 unfolding elses
 elses_is i good ls = knot_is else_turn (λ at. ([], ([], None), no_elses)) else_turn_law i good ls
 
@@ -183,4 +183,4 @@ block_law N = knot {S = SpellsBlock} block_turn some_block (λ M i j p q _ k. br
 -- a block is read by the reader of the blocks in it
 pub block_is : (ls : Numbered) → block ls ≡ braced block ls
 unfolding block block_turn
-block_is ls = knot_is {S = SpellsBlock} block_turn some_block (λ M i j p q _ k. braced_law M p q k) refuse (refused {N = 0} some_block).good ls
+block_is ls = knot_is {S = SpellsBlock} block_turn some_block (λ M i j p q _ k. braced_law M p q k) refuse (λ M. refused some_block) ls

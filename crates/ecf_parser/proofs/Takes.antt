@@ -87,7 +87,7 @@ next_assoc P a b rest h = subst (λ ls. P (next ls)) (sym (append_assoc a b rest
 
 -- ---- lists
 
-each_found : {A : Type 0} → Parser A → Parser (List A) → Bool → Parser (List A)
+unfoldable pub each_found : {A : Type 0} → Parser A → Parser (List A) → Bool → Parser (List A)
 each_found item more found = cond found (item >>= (λ x. more >>= (λ xs. pure (x ∷ xs)))) (pure [])
 
 module _ {A : Type 0} (t : Sign) (item : Parser A) (opens : (ls : Numbered) → each t item ls ≡ each_turn t item (each t item) ls) where

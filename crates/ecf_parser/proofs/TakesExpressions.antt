@@ -16,7 +16,7 @@ use Rattle.ecf_grammar.specs.Spells.{Is, either_of, both_of, sum_of, product_of,
 use Rattle.ecf_grammar.specs.Spells.Is.{is}
 use Rattle.ecf_parser.specs.Parsers.{Outcome, Parser, and_then, ◌>>=◌, pure, choose, when, next, kind_of, is_sign, is_word, sign, word, name, number, eat_sign, eat_word, op_at, operator, each_turn, each, chain_turn, chain, until, listed}
 use Rattle.ecf_parser.specs.Descent.{arguments, indexed, target_by, target, external, internal, invoke_by, invoke, atom_by, atom, unary, product, sum, compared, comparison, both, either, expr}
-use Rattle.ecf_parser.proofs.Lawful.{Lawful}
+use Rattle.ecf_parser.proofs.Lawful.{Lawful, fewer}
 use Rattle.ecf_parser.proofs.Steps.{each_is, chain_is}
 use Rattle.ecf_parser.proofs.Expressions.{expr_law, unary_law, product_law, comparison_law, both_law, expr_is}
 use Rattle.ecf_parser.proofs.Takes.{via, seq, when_no, when_yes, is_sign_self, sign_is, word_is, name_is, number_is, eats_sign, leaves_sign, takes_op, leaves_op, next_is, next_assoc, each_ends, each_goes, chain_ends, chain_goes, listed_none, listed_some}
@@ -189,20 +189,20 @@ not_negated rest p = atom_begins (is_sign s.Not) (λ _. refl) refl refl refl ref
 
 -- ---- one line at a time
 
-unary_opens : (ls : Numbered) → chain product_op (unary expr) ls ≡ chain_turn product_op (unary expr) (chain product_op (unary expr)) ls
-unary_opens ls = chain_is SpellsUnary SpellsProducts product_op SpellsProducts.no_factor (λ c a b t at o x xs p q r rs. SpellsProducts.factor p q r rs) (unary expr) (unary_law 0 expr expr (expr_law 0)).good ls
+pub unary_opens : (ls : Numbered) → chain product_op (unary expr) ls ≡ chain_turn product_op (unary expr) (chain product_op (unary expr)) ls
+unary_opens ls = chain_is SpellsUnary SpellsProducts product_op SpellsProducts.no_factor (λ c a b t at o x xs p q r rs. SpellsProducts.factor p q r rs) (unary expr) (λ M. fewer M (suc M) (omega arith) (unary_law M expr expr (expr_law M))) ls
 
-product_opens : (ls : Numbered) → chain sum_op (product expr) ls ≡ chain_turn sum_op (product expr) (chain sum_op (product expr)) ls
-product_opens ls = chain_is SpellsProduct SpellsSums sum_op SpellsSums.no_term (λ c a b t at o x xs p q r rs. SpellsSums.term p q r rs) (product expr) (product_law 0 expr expr (expr_law 0)).good ls
+pub product_opens : (ls : Numbered) → chain sum_op (product expr) ls ≡ chain_turn sum_op (product expr) (chain sum_op (product expr)) ls
+product_opens ls = chain_is SpellsProduct SpellsSums sum_op SpellsSums.no_term (λ c a b t at o x xs p q r rs. SpellsSums.term p q r rs) (product expr) (λ M. fewer M (suc M) (omega arith) (product_law M expr expr (expr_law M))) ls
 
-comparison_opens : (ls : Numbered) → each s.And (comparison expr) ls ≡ each_turn s.And (comparison expr) (each s.And (comparison expr)) ls
-comparison_opens ls = each_is SpellsComparison SpellsBoths s.And SpellsBoths.no_and (λ c a b at x xs p r rs. SpellsBoths.and p r rs) (comparison expr) (comparison_law 0 expr expr (expr_law 0)).good ls
+pub comparison_opens : (ls : Numbered) → each s.And (comparison expr) ls ≡ each_turn s.And (comparison expr) (each s.And (comparison expr)) ls
+comparison_opens ls = each_is SpellsComparison SpellsBoths s.And SpellsBoths.no_and (λ c a b at x xs p r rs. SpellsBoths.and p r rs) (comparison expr) (λ M. fewer M (suc M) (omega arith) (comparison_law M expr expr (expr_law M))) ls
 
-both_opens : (ls : Numbered) → each s.Or (both expr) ls ≡ each_turn s.Or (both expr) (each s.Or (both expr)) ls
-both_opens ls = each_is SpellsBoth SpellsEithers s.Or SpellsEithers.no_or (λ c a b at x xs p r rs. SpellsEithers.or p r rs) (both expr) (both_law 0 expr expr (expr_law 0)).good ls
+pub both_opens : (ls : Numbered) → each s.Or (both expr) ls ≡ each_turn s.Or (both expr) (each s.Or (both expr)) ls
+both_opens ls = each_is SpellsBoth SpellsEithers s.Or SpellsEithers.no_or (λ c a b at x xs p r rs. SpellsEithers.or p r rs) (both expr) (λ M. fewer M (suc M) (omega arith) (both_law M expr expr (expr_law M))) ls
 
-expr_opens : (ls : Numbered) → each s.Comma expr ls ≡ each_turn s.Comma expr (each s.Comma expr) ls
-expr_opens ls = each_is SpellsExpr SpellsFurther s.Comma SpellsFurther.no_further (λ c a b at x xs p r rs. SpellsFurther.further p r rs) expr (expr_law 0).good ls
+pub expr_opens : (ls : Numbered) → each s.Comma expr ls ≡ each_turn s.Comma expr (each s.Comma expr) ls
+expr_opens ls = each_is SpellsExpr SpellsFurther s.Comma SpellsFurther.no_further (λ c a b at x xs p r rs. SpellsFurther.further p r rs) expr expr_law ls
 
 -- ---- one line at a time
 

@@ -41,9 +41,9 @@ param_is a x rest (SpellsParam.param {n = n} {s = c} {t = t} p q r) = seq _ name
 
 -- ---- lists
 
-module _ {A : Type 0} (S : Numbered → A → Type 0) (item : Parser A) (good : (ls : Numbered) → Good S ls (item ls)) (item_is : (a : Numbered) (x : A) (rest : Numbered) → S a x → item (a ++ rest) ≡ Ok (x, rest)) where
+module _ {A : Type 0} (S : Numbered → A → Type 0) (item : Parser A) (law : (N : ℕ) → Lawful N S item item) (item_is : (a : Numbered) (x : A) (rest : Numbered) → S a x → item (a ++ rest) ≡ Ok (x, rest)) where
   opens_more : (ls : Numbered) → each s.Comma item ls ≡ each_turn s.Comma item (each s.Comma item) ls
-  opens_more ls = each_is S (SpellsMore S) s.Comma SpellsMore.none (λ c a b at x xs p r rs. SpellsMore.more p r rs) item good ls
+  opens_more ls = each_is S (SpellsMore S) s.Comma SpellsMore.none (λ c a b at x xs p r rs. SpellsMore.more p r rs) item law ls
 
   more_reads : {a : Numbered} {xs : List A} → SpellsMore S a xs → (rest : Numbered) → is_sign s.Comma (next rest) ≡ false → each s.Comma item (a ++ rest) ≡ Ok (xs, rest)
   more_reads SpellsMore.none rest h = each_ends s.Comma item opens_more rest h
@@ -86,7 +86,7 @@ first_is rest (SpellsFirst.first {s = o} {a = a} p r) h = seq first_by (eat_sign
 entries_is : {a : Numbered} {x : List (Const × Const)} (rest : Numbered) → SpellsEntries a x → is_sign s.Assign (next rest) ≡ false → entries (a ++ rest) ≡ Ok (x, rest)
 unfolding entries
 entries_is rest SpellsEntries.no_entries h = via entries_by (leaves_sign s.Assign rest h) refl
-entries_is rest (SpellsEntries.entries {s = q} {o = o} {a = a} {c = c} p p1 r p2) h = seq entries_by (eat_sign s.Assign) q (o ++ (a ++ c)) rest (eats_sign p _) (seq _ (sign s.OpenBrace) o (a ++ c) rest (sign_is p1 _) (seq _ (listed s.Comma s.CloseBrace entry) a c rest (list_reads SpellsEntry entry (entry_law {N = 0}).good entry_is s.CloseBrace entry_begins r (c ++ rest) (next_is (λ k. is_sign s.Comma k ≡ false) rest p2 brace_is_no_comma) (next_is (λ k. is_sign s.CloseBrace k ≡ true) rest p2 (is_sign_self s.CloseBrace))) (via _ (sign_is p2 rest) refl)))
+entries_is rest (SpellsEntries.entries {s = q} {o = o} {a = a} {c = c} p p1 r p2) h = seq entries_by (eat_sign s.Assign) q (o ++ (a ++ c)) rest (eats_sign p _) (seq _ (sign s.OpenBrace) o (a ++ c) rest (sign_is p1 _) (seq _ (listed s.Comma s.CloseBrace entry) a c rest (list_reads SpellsEntry entry (λ M. entry_law) entry_is s.CloseBrace entry_begins r (c ++ rest) (next_is (λ k. is_sign s.Comma k ≡ false) rest p2 brace_is_no_comma) (next_is (λ k. is_sign s.CloseBrace k ≡ true) rest p2 (is_sign_self s.CloseBrace))) (via _ (sign_is p2 rest) refl)))
 
 field_is : {n c : Numbered} {at at1 : ℕ} {bytes : List ℕ} {k : Ty} {v : Option Const} (t f rest : Numbered) → SpellsType t k → Is (NameOf bytes) n at → SpellsFirst f v → Is (SignOf s.Semicolon) c at1 → field ((t ++ (n ++ (f ++ c))) ++ rest) ≡ Ok (m.Field at bytes k v, rest)
 unfolding field
@@ -98,7 +98,7 @@ map_is {v} {n} {o} {r} {c} t1 t2 e rest p1 nm p2 ty1 p3 ty2 u p4 = seq _ (word w
 
 method_is : {v n o c d : Numbered} {at at1 at2 at3 at4 : ℕ} {bytes : List ℕ} {params : List Param} {answer : Ty} {x : _} (q t b rest : Numbered) → Is (WordOf w.Method) v at1 → Is (NameOf bytes) n at → Is (SignOf s.OpenParen) o at2 → SpellsList SpellsParam q params → Is (SignOf s.CloseParen) c at3 → Is (SignOf s.Colon) d at4 → SpellsType t answer → SpellsBlock b x → method ((v ++ (n ++ (o ++ (q ++ (c ++ (d ++ (t ++ b))))))) ++ rest) ≡ Ok (m.Method at bytes params answer x, rest)
 unfolding method
-method_is {v} {n} {o} {c} {d} q t b rest p1 nm p2 r p3 p4 ty u = seq _ (word w.Method) v (n ++ (o ++ (q ++ (c ++ (d ++ (t ++ b)))))) rest (word_is p1 _) (seq _ name n (o ++ (q ++ (c ++ (d ++ (t ++ b))))) rest (name_is nm _) (seq _ (sign s.OpenParen) o (q ++ (c ++ (d ++ (t ++ b)))) rest (sign_is p2 _) (seq _ (listed s.Comma s.CloseParen param) q (c ++ (d ++ (t ++ b))) rest (list_reads SpellsParam param (param_law {N = 0}).good param_is s.CloseParen param_begins r ((c ++ (d ++ (t ++ b))) ++ rest) (next_assoc (λ k. is_sign s.Comma k ≡ false) c (d ++ (t ++ b)) rest (next_is (λ k. is_sign s.Comma k ≡ false) ((d ++ (t ++ b)) ++ rest) p3 paren_is_no_comma)) (next_assoc (λ k. is_sign s.CloseParen k ≡ true) c (d ++ (t ++ b)) rest (next_is (λ k. is_sign s.CloseParen k ≡ true) ((d ++ (t ++ b)) ++ rest) p3 (is_sign_self s.CloseParen)))) (seq _ (sign s.CloseParen) c (d ++ (t ++ b)) rest (sign_is p3 _) (seq _ (sign s.Colon) d (t ++ b) rest (sign_is p4 _) (seq _ type_ t b rest (type_is _ ty) (via _ (block_reads u rest) refl)))))))
+method_is {v} {n} {o} {c} {d} q t b rest p1 nm p2 r p3 p4 ty u = seq _ (word w.Method) v (n ++ (o ++ (q ++ (c ++ (d ++ (t ++ b)))))) rest (word_is p1 _) (seq _ name n (o ++ (q ++ (c ++ (d ++ (t ++ b))))) rest (name_is nm _) (seq _ (sign s.OpenParen) o (q ++ (c ++ (d ++ (t ++ b)))) rest (sign_is p2 _) (seq _ (listed s.Comma s.CloseParen param) q (c ++ (d ++ (t ++ b))) rest (list_reads SpellsParam param (λ M. param_law) param_is s.CloseParen param_begins r ((c ++ (d ++ (t ++ b))) ++ rest) (next_assoc (λ k. is_sign s.Comma k ≡ false) c (d ++ (t ++ b)) rest (next_is (λ k. is_sign s.Comma k ≡ false) ((d ++ (t ++ b)) ++ rest) p3 paren_is_no_comma)) (next_assoc (λ k. is_sign s.CloseParen k ≡ true) c (d ++ (t ++ b)) rest (next_is (λ k. is_sign s.CloseParen k ≡ true) ((d ++ (t ++ b)) ++ rest) p3 (is_sign_self s.CloseParen)))) (seq _ (sign s.CloseParen) c (d ++ (t ++ b)) rest (sign_is p3 _) (seq _ (sign s.Colon) d (t ++ b) rest (sign_is p4 _) (seq _ type_ t b rest (type_is _ ty) (via _ (block_reads u rest) refl)))))))
 
 field_chosen : {a : Numbered} {k : Ty} (b rest : Numbered) → SpellsType a k → member ((a ++ b) ++ rest) ≡ field ((a ++ b) ++ rest)
 unfolding member
@@ -136,7 +136,7 @@ member_begins rest (SpellsMember.method (is at) nm p r p2 p3 ty u) = refl
 -- ---- objects
 
 opens_members : (ls : Numbered) → until (is_sign s.CloseBrace) member ls ≡ until_turn (is_sign s.CloseBrace) member (until (is_sign s.CloseBrace) member) ls
-opens_members ls = until_is SpellsMember (SpellsAll SpellsMember) (is_sign s.CloseBrace) member_len SpellsAll.none (λ a b x xs r rs. SpellsAll.some r rs) member (member_law {N = 0}).good ls
+opens_members ls = until_is SpellsMember (SpellsAll SpellsMember) (is_sign s.CloseBrace) member_len SpellsAll.none (λ a b x xs r rs. SpellsAll.some r rs) member (λ M. member_law) ls
 
 members_read : {a : Numbered} {xs : List Member} → SpellsAll SpellsMember a xs → (rest : Numbered) → is_sign s.CloseBrace (next rest) ≡ true → until (is_sign s.CloseBrace) member (a ++ rest) ≡ Ok (xs, rest)
 members_read SpellsAll.none rest h = until_ends (is_sign s.CloseBrace) member opens_members rest h
@@ -150,7 +150,7 @@ object_begins : {a : Numbered} {x : ObjectDecl} (rest : Numbered) → SpellsObje
 object_begins rest (SpellsObject.object (is at) nm p2 r p3) = refl
 
 pub opens_objects : (ls : Numbered) → until at_end object ls ≡ until_turn at_end object (until at_end object) ls
-opens_objects ls = until_is SpellsObject (SpellsAll SpellsObject) at_end object_len SpellsAll.none (λ a b x xs r rs. SpellsAll.some r rs) object (object_law {N = 0}).good ls
+opens_objects ls = until_is SpellsObject (SpellsAll SpellsObject) at_end object_len SpellsAll.none (λ a b x xs r rs. SpellsAll.some r rs) object (λ M. object_law) ls
 
 objects_read : {a : Numbered} {xs : List ObjectDecl} → SpellsAll SpellsObject a xs → until at_end object (a ++ []) ≡ Ok (xs, [])
 objects_read SpellsAll.none = until_ends at_end object opens_objects [] refl

@@ -16,7 +16,7 @@ use Rattle.ecf_grammar.specs.Spells.{Is, SpellsExpr, SpellsInvoke, SpellsExterna
 use Rattle.ecf_grammar.specs.Spells.Is.{is}
 use Rattle.ecf_parser.specs.Parsers.{Outcome, Parser, and_then, ◌>>=◌, pure, choose, when, next, kind_of, is_sign, is_word, sign, word, name, number, eat_sign, eat_word, until, until_turn}
 use Rattle.ecf_parser.specs.Descent.{external, invoke, expr, type_, value, let_value, let_, set_by, set, closed, arm, else_by, else_turn_by, else_turn, elses, if_, while, stmt_by, stmt, braced, block}
-use Rattle.ecf_parser.proofs.Lawful.{Lawful}
+use Rattle.ecf_parser.proofs.Lawful.{Lawful, fewer}
 use Rattle.ecf_parser.proofs.Steps.{until_is}
 use Rattle.ecf_parser.proofs.Statements.{stmt_law, stmt_len, block_law, block_is, elses_is}
 use Rattle.ecf_parser.proofs.Takes.{via, seq, when_no, when_yes, is_sign_self, is_word_self, sign_is, word_is, name_is, eats_sign, leaves_sign, eats_word, leaves_word, next_is, next_assoc, until_ends, until_goes}
@@ -158,7 +158,7 @@ unfolding while
 while_step {v} a rest p e = while_chosen a rest p ∙ seq _ (word w.While) v a rest (word_is p (a ++ rest)) (via _ e refl)
 
 opens_elses : (ls : Numbered) → elses block ls ≡ else_turn block (elses block) ls
-opens_elses ls = elses_is block (block_law 0).good ls
+opens_elses ls = elses_is block block_law ls
 
 no_else_step : (rest : Numbered) → is_word w.Else (next rest) ≡ false → elses block rest ≡ Ok (([], None), rest)
 no_else_step rest h = opens_elses rest ∙ via (else_turn_by block (elses block)) (leaves_word w.Else rest h) refl
@@ -170,7 +170,7 @@ else_if_step : {v i : Numbered} {at at1 : ℕ} {first : Expr × Block} {arms : L
 else_if_step {v} {i} a r rest p q e k = opens_elses ((v ++ (i ++ (a ++ r))) ++ rest) ∙ seq (else_turn_by block (elses block)) (eat_word w.Else) v (i ++ (a ++ r)) rest (eats_word p ((i ++ (a ++ r)) ++ rest)) (seq (else_by block (elses block)) (eat_word w.If) i (a ++ r) rest (eats_word q ((a ++ r) ++ rest)) (seq _ (arm block) a r rest e (via _ k refl)))
 
 opens_stmts : (ls : Numbered) → until (is_sign s.CloseBrace) (stmt block) ls ≡ until_turn (is_sign s.CloseBrace) (stmt block) (until (is_sign s.CloseBrace) (stmt block)) ls
-opens_stmts ls = until_is SpellsStmt SpellsStmts (is_sign s.CloseBrace) stmt_len SpellsStmts.no_stmt (λ a b x xs r rs. SpellsStmts.stmts r rs) (stmt block) (stmt_law 0 block block (block_law 0)).good ls
+opens_stmts ls = until_is SpellsStmt SpellsStmts (is_sign s.CloseBrace) stmt_len SpellsStmts.no_stmt (λ a b x xs r rs. SpellsStmts.stmts r rs) (stmt block) (λ M. fewer M (suc M) (omega arith) (stmt_law M block block (block_law M))) ls
 
 block_step : {o c : Numbered} {at1 at2 : ℕ} {xs : List Stmt} (a rest : Numbered) → Is (SignOf s.OpenBrace) o at1 → until (is_sign s.CloseBrace) (stmt block) (a ++ (c ++ rest)) ≡ Ok (xs, c ++ rest) → Is (SignOf s.CloseBrace) c at2 → block ((o ++ (a ++ c)) ++ rest) ≡ Ok (roll-Block (record { stmts = xs }), rest)
 unfolding braced

@@ -61,6 +61,23 @@ unfoldable pub is_word : Word → Option Kind → Bool
 is_word w (Some (kind.Word v)) = sameb words.the_type v w
 is_word w _ = false
 
+unfoldable pub is_name : Option Kind → Bool
+is_name (Some kind.Name) = true
+is_name _ = false
+
+unfoldable pub number_in : Option Kind → Option ℕ
+number_in (Some (kind.Number value)) = Some value
+number_in _ = None
+
+-- the bytes of the next lexeme, if it is a name
+abbrev pub bytes_in : Lexeme → List ℕ
+bytes_in (NameOf bytes) = bytes
+bytes_in _ = []
+
+abbrev pub bytes_of : Numbered → List ℕ
+bytes_of [] = []
+bytes_of (l ∷ ls) = bytes_in l.1
+
 -- the reader that the kind of the next lexeme chooses
 abbrev pub choose : {A : Type 0} → (Option Kind → Parser A) → Parser A
 choose f = λ ls. f (next ls) ls
