@@ -1,5 +1,5 @@
 -- What it means that lexemes spell a contract file: a case for each line of the grammar. Of one line the parts stand one behind the other.
-use Rattle.std.specs.Prelude.{◌≡◌, ℕ, true, false, List, [], ◌∷◌, ◌++◌, Option, Some, None}
+use Rattle.std.specs.Prelude.{◌≡◌, ℕ, ◌+◌, ◌<◌, ◌≤◌, length, take, true, false, List, [], ◌∷◌, ◌++◌, Option, Some, None}
 use Rattle.ecf_grammar.specs.declared.tokens.Word.{Word}
 use Rattle.ecf_grammar.specs.declared.tokens.Word.TheVariants as word
 use Rattle.ecf_grammar.specs.declared.tokens.Sign.{Sign}
@@ -23,6 +23,7 @@ use Rattle.ecf_lang.specs.declared.tree.Member.TheVariants as member
 use Rattle.ecf_lang.specs.declared.tree.ObjectDecl.{ObjectDecl}
 use Rattle.ecf_lang.specs.declared.tree.Tree.{Tree}
 use Rattle.ecf_grammar.specs.Lexemes.{Lexeme, Numbered, numbered}
+use Rattle.ecf_grammar.specs.Nesting.{nesting, nesting_limit, IsShallow}
 use Rattle.ecf_grammar.specs.Lexemes.Lexeme.{NameOf, NumberOf, WordOf, SignOf}
 
 -- this lexeme alone, the token of that number
@@ -263,3 +264,41 @@ pub data SpellsFile : Numbered → Tree → Type 0 where
 -- the tokens, numbered from 0, spell the tree
 abbrev pub Spells : List Lexeme → Tree → Type 0
 Spells lexemes tree = SpellsFile (numbered 0 lexemes) tree
+
+-- some lexemes complete these to a file
+abbrev pub BeginsFile : List Lexeme → Type 0
+BeginsFile front = (more : List Lexeme) × (tree : Tree) × Spells (front ++ more) tree
+
+-- no file begins with the lexemes through that token; through the end, they are no file
+pub record EndsFiles (lexemes : List Lexeme) (token : ℕ) : Type 0 where
+  pub within : token ≤ length lexemes
+  pub none : token < length lexemes → ¬ BeginsFile (take (token + 1) lexemes)
+  pub over : token ≡ length lexemes → (tree : Tree) → ¬ Spells lexemes tree
+
+-- the first token out of place: those before it begin some file, and with it none does
+pub record IsOutOfPlace (lexemes : List Lexeme) (token : ℕ) : Type 0 where
+  pub before : BeginsFile (take token lexemes)
+  pub with_it : EndsFiles lexemes token
+  pub shallow : IsShallow lexemes (token + 1)
+
+-- the first token that is nested too deep, with none out of place before it
+pub record IsTooDeep (lexemes : List Lexeme) (token : ℕ) : Type 0 where
+  pub within : token < length lexemes
+  pub before : BeginsFile (take token lexemes)
+  pub deep : nesting lexemes token ≡ nesting_limit + 1
+  pub shallow : IsShallow lexemes token
+
+-- the tokens spell the tree, and none is nested too deep
+pub record IsFileOf (lexemes : List Lexeme) (tree : Tree) : Type 0 where
+  pub spelled : Spells lexemes tree
+  pub shallow : IsShallow lexemes (length lexemes)
+
+-- the same lexemes spell one tree at most
+abbrev pub OneTree : Type 0
+OneTree = (lexemes : List Lexeme) (tree other : Tree) → Spells lexemes tree → Spells lexemes other → tree ≡ other
+
+-- lexemes are a file of a tree, or have a first token out of place, or a first one nested too deep, and no two of these
+abbrev pub OneAnswer : Type 0
+OneAnswer = (lexemes : List Lexeme) (tree : Tree) (token other : ℕ) →
+  (IsFileOf lexemes tree → ¬ IsOutOfPlace lexemes token) × (IsFileOf lexemes tree → ¬ IsTooDeep lexemes token) × (IsOutOfPlace lexemes token → ¬ IsTooDeep lexemes other)
+  × (IsOutOfPlace lexemes token → IsOutOfPlace lexemes other → token ≡ other) × (IsTooDeep lexemes token → IsTooDeep lexemes other → token ≡ other)

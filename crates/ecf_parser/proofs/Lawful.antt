@@ -85,7 +85,7 @@ pub append_nil : {A : Type 0} (a : List A) → a ++ [] ≡ a
 append_nil [] = refl
 append_nil (x ∷ a) = ap (λ t. x ∷ t) (append_nil a)
 
-numbered_append : (at : ℕ) (a b : List Lexeme) → numbered at (a ++ b) ≡ numbered at a ++ numbered (at + length a) b
+pub numbered_append : (at : ℕ) (a b : List Lexeme) → numbered at (a ++ b) ≡ numbered at a ++ numbered (at + length a) b
 numbered_append at [] b = ap (λ n. numbered n b) (omega arith)
 numbered_append at (x ∷ a) b =
     let e : at + 1 + length a ≡ at + length (x ∷ a) = omega arith in

@@ -9,3 +9,4 @@ pub mod TakesStatements
 pub mod TakesFiles
 pub mod Cursors
 pub mod Loops
+pub mod Faults
