@@ -1,5 +1,5 @@
 -- What it means that lexemes spell a contract file: a case for each line of the grammar. Of one line the parts stand one behind the other.
-use Rattle.std.specs.Prelude.{◌≡◌, ℕ, ◌+◌, ◌<◌, ◌≤◌, length, take, true, false, List, [], ◌∷◌, ◌++◌, Option, Some, None}
+use Rattle.std.specs.Prelude.{◌≡◌, ℕ, ◌+◌, ◌<◌, ◌≤◌, length, take, true, false, List, [], ◌∷◌, ◌++◌, ◌⊎◌, Option, Some, None}
 use Rattle.ecf_grammar.specs.declared.tokens.Word.{Word}
 use Rattle.ecf_grammar.specs.declared.tokens.Word.TheVariants as word
 use Rattle.ecf_grammar.specs.declared.tokens.Sign.{Sign}
@@ -297,8 +297,14 @@ pub record IsFileOf (lexemes : List Lexeme) (tree : Tree) : Type 0 where
 abbrev pub OneTree : Type 0
 OneTree = (lexemes : List Lexeme) (tree other : Tree) → Spells lexemes tree → Spells lexemes other → tree ≡ other
 
--- lexemes are a file of a tree, or have a first token out of place, or a first one nested too deep, and no two of these
-abbrev pub OneAnswer : Type 0
-OneAnswer = (lexemes : List Lexeme) (tree : Tree) (token other : ℕ) →
-  (IsFileOf lexemes tree → ¬ IsOutOfPlace lexemes token) × (IsFileOf lexemes tree → ¬ IsTooDeep lexemes token) × (IsOutOfPlace lexemes token → ¬ IsTooDeep lexemes other)
-  × (IsOutOfPlace lexemes token → IsOutOfPlace lexemes other → token ≡ other) × (IsTooDeep lexemes token → IsTooDeep lexemes other → token ≡ other)
+-- lexemes are the file of a tree, or have a first token out of place, or a first one that is nested too deep
+abbrev pub SomeAnswer : Type 0
+SomeAnswer = (lexemes : List Lexeme) → ((tree : Tree) × IsFileOf lexemes tree) ⊎ (((token : ℕ) × IsOutOfPlace lexemes token) ⊎ ((token : ℕ) × IsTooDeep lexemes token))
+
+-- and no two of these, nor two such tokens
+pub record OneAnswer : Type 0 where
+  pub file_or_place : (lexemes : List Lexeme) (tree : Tree) (token : ℕ) → IsFileOf lexemes tree → ¬ IsOutOfPlace lexemes token
+  pub file_or_deep : (lexemes : List Lexeme) (tree : Tree) (token : ℕ) → IsFileOf lexemes tree → ¬ IsTooDeep lexemes token
+  pub place_or_deep : (lexemes : List Lexeme) (token other : ℕ) → IsOutOfPlace lexemes token → ¬ IsTooDeep lexemes other
+  pub one_place : (lexemes : List Lexeme) (token other : ℕ) → IsOutOfPlace lexemes token → IsOutOfPlace lexemes other → token ≡ other
+  pub one_deep : (lexemes : List Lexeme) (token other : ℕ) → IsTooDeep lexemes token → IsTooDeep lexemes other → token ≡ other

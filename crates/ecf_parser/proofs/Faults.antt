@@ -114,7 +114,7 @@ good_stops lexemes o rest (stuck a r e c) g = let same : r ≡ rest = cc in reco
 pub fault_stops : (lexemes : List Lexeme) (rest : Numbered) → file (numbered 0 lexemes) ≡ Err rest → Stops lexemes rest
 fault_stops lexemes rest e = good_stops lexemes (file (numbered 0 lexemes)) rest ((file_law {N = 0}).good (numbered 0 lexemes)) e
 
-stop_len : (lexemes : List Lexeme) (rest : Numbered) (h : Stops lexemes rest) → length h.front + length rest ≡ length lexemes
+pub stop_len : (lexemes : List Lexeme) (rest : Numbered) (h : Stops lexemes rest) → length h.front + length rest ≡ length lexemes
 stop_len lexemes rest h = omega (arith, numbered_len 0 lexemes, ap length h.whole, length-append h.front rest)
 
 -- what comes before a fault begins some file

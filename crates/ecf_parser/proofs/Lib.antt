@@ -10,3 +10,4 @@ pub mod TakesFiles
 pub mod Cursors
 pub mod Loops
 pub mod Faults
+pub mod Decided
