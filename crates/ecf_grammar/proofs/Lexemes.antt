@@ -9,7 +9,7 @@ use Rattle.ecf_grammar.specs.declared.tokens.Word.{Word}
 use Rattle.ecf_grammar.specs.declared.tokens.Word.TheVariants as word
 use Rattle.ecf_grammar.specs.declared.tokens.Sign.{Sign}
 use Rattle.ecf_grammar.specs.declared.tokens.Sign.TheVariants as sign
-use Rattle.ecf_grammar.specs.Spelling.{spelling, sign_text, is_name_start, is_blank, IsIdentifier, IsDigits, IsLexeme}
+use Rattle.ecf_grammar.specs.Spelling.{word_text, sign_text, is_name_start, is_blank, IsIdentifier, IsDigits, IsLexeme}
 
 pub and_parts : (a b : Bool) → (a && b) ≡ true → (a ≡ true) × (b ≡ true)
 and_parts true b h = (refl, h)
@@ -33,7 +33,7 @@ words = word.Object ∷ word.Num ∷ word.Flag ∷ word.Addr ∷ word.Map ∷ wo
 abbrev signs : List Sign
 signs = sign.OpenBrace ∷ sign.CloseBrace ∷ sign.OpenParen ∷ sign.CloseParen ∷ sign.OpenBracket ∷ sign.CloseBracket ∷ sign.Colon ∷ sign.Semicolon ∷ sign.Comma ∷ sign.Dot ∷ sign.Assign ∷ sign.Equal ∷ sign.NotEqual ∷ sign.Less ∷ sign.LessEqual ∷ sign.Greater ∷ sign.GreaterEqual ∷ sign.Plus ∷ sign.Minus ∷ sign.Star ∷ sign.Slash ∷ sign.Percent ∷ sign.And ∷ sign.Or ∷ sign.Not ∷ sign.Arrow ∷ []
 
-found_word : (w : Word) → entry spelling words (spelling w) ≡ Some w
+found_word : (w : Word) → entry word_text words (word_text w) ≡ Some w
 found_word word.Object = refl
 found_word word.Num = refl
 found_word word.Flag = refl
@@ -84,15 +84,15 @@ found_sign sign.Arrow = refl
 one_entry : {K : Type 0} (x y : K) → Some x ≡ Some y → x ≡ y
 one_entry x y e = cc
 
-pub same_word : (w v : Word) → spelling w ≡ spelling v → w ≡ v
-same_word w v e = one_entry w v (sym (found_word w) ∙ ap (entry spelling words) e ∙ found_word v)
+pub same_word : (w v : Word) → word_text w ≡ word_text v → w ≡ v
+same_word w v e = one_entry w v (sym (found_word w) ∙ ap (entry word_text words) e ∙ found_word v)
 
 pub same_sign : (s r : Sign) → sign_text s ≡ sign_text r → s ≡ r
 same_sign s r e = one_entry s r (sym (found_sign s) ∙ ap (entry sign_text signs) e ∙ found_sign r)
 
 -- ---- what begins a lexeme
 
-pub word_identifier : (w : Word) → IsIdentifier (spelling w)
+pub word_identifier : (w : Word) → IsIdentifier (word_text w)
 word_identifier word.Object = (refl, refl)
 word_identifier word.Num = (refl, refl)
 word_identifier word.Flag = (refl, refl)
@@ -188,7 +188,7 @@ digits_no_sign (b ∷ bs) h g = let digit = first_digit b bs h in let other = g.
 pub sign_text_of : (s : Sign) (bytes : List ℕ) → bytes ≡ sign_text s → IsSignText bytes
 sign_text_of s bytes e = subst IsSignText (sym e) (sign_shape s)
 
-pub word_text_of : (w : Word) (bytes : List ℕ) → bytes ≡ spelling w → IsIdentifier bytes
+pub word_text_of : (w : Word) (bytes : List ℕ) → bytes ≡ word_text w → IsIdentifier bytes
 word_text_of w bytes e = subst IsIdentifier (sym e) (word_identifier w)
 
 pub same_kind : (k j : Kind) (bytes : List ℕ) → IsLexeme k bytes → IsLexeme j bytes → k ≡ j

@@ -10,25 +10,25 @@ use Rattle.ecf_grammar.specs.declared.tokens.Sign.{Sign}
 use Rattle.ecf_grammar.specs.declared.tokens.Sign.TheVariants as sign
 
 -- the bytes of a reserved word
-abbrev pub spelling : Word → List ℕ
-spelling word.Object = codes "object"
-spelling word.Num = codes "num"
-spelling word.Flag = codes "flag"
-spelling word.Addr = codes "addr"
-spelling word.Map = codes "map"
-spelling word.Method = codes "method"
-spelling word.Let = codes "let"
-spelling word.If = codes "if"
-spelling word.Else = codes "else"
-spelling word.While = codes "while"
-spelling word.Return = codes "return"
-spelling word.Revert = codes "revert"
-spelling word.Call = codes "call"
-spelling word.SelfWord = codes "self"
-spelling word.Here = codes "here"
-spelling word.True = codes "true"
-spelling word.False = codes "false"
-spelling word.Try = codes "try"
+abbrev pub word_text : Word → List ℕ
+word_text word.Object = codes "object"
+word_text word.Num = codes "num"
+word_text word.Flag = codes "flag"
+word_text word.Addr = codes "addr"
+word_text word.Map = codes "map"
+word_text word.Method = codes "method"
+word_text word.Let = codes "let"
+word_text word.If = codes "if"
+word_text word.Else = codes "else"
+word_text word.While = codes "while"
+word_text word.Return = codes "return"
+word_text word.Revert = codes "revert"
+word_text word.Call = codes "call"
+word_text word.SelfWord = codes "self"
+word_text word.Here = codes "here"
+word_text word.True = codes "true"
+word_text word.False = codes "false"
+word_text word.Try = codes "try"
 
 -- the bytes of a sign
 abbrev pub sign_text : Sign → List ℕ
@@ -79,7 +79,7 @@ IsIdentifier (first ∷ more) = IsTrue (is_name_start first) × IsTrue (list_all
 -- an identifier that isn't reserved
 pub record IsName (bytes : List ℕ) : Type 0 where
   pub identifier : IsIdentifier bytes
-  pub free : (w : Word) → bytes ≢ spelling w
+  pub free : (w : Word) → bytes ≢ word_text w
 
 -- one digit or more
 pub record IsDigits (bytes : List ℕ) : Type 0 where
@@ -94,5 +94,5 @@ number_value digits = fold (λ value digit. 10 * value + (digit - 48)) 0 digits
 abbrev pub IsLexeme : Kind → List ℕ → Type 0
 IsLexeme kind.Name bytes = IsName bytes
 IsLexeme (kind.Number value) bytes = IsDigits bytes × (number_value bytes ≡ value)
-IsLexeme (kind.Word w) bytes = bytes ≡ spelling w
+IsLexeme (kind.Word w) bytes = bytes ≡ word_text w
 IsLexeme (kind.Sign s) bytes = bytes ≡ sign_text s

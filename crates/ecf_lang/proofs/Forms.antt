@@ -1,23 +1,24 @@
 -- What each form of the language does, at a state: one equation a form.
-use Rattle.std.proofs.Common.{◌≡◌, ℕ, suc, Bool, List, [], ◌∷◌, map, Option, Some, None, refl, ap, sym, ◌∙◌}
+use Rattle.std.proofs.Common.{◌≡◌, ℕ, suc, Bool, List, map, Option, Some, None, refl, ap, sym, ◌∙◌}
 use Rattle.std.specs.Prelude.{slice_set}
 use Rattle.std.specs.Option.{option_map}
 use Rattle.ecf_lang.specs.declared.tree.Op.{Op}
 use Rattle.ecf_lang.specs.declared.tree.Ty.{Ty}
-use Rattle.ecf_lang.specs.declared.run.Cause.TheVariants.{User, Depth}
+use Rattle.ecf_lang.specs.declared.run.Cause.TheVariants.{User}
 use Rattle.ecf_lang.specs.declared.typed.Place.{Place}
 use Rattle.ecf_lang.specs.declared.typed.Assignee.{Assignee}
-use Rattle.ecf_lang.specs.declared.typed.TypedExpr.{TypedExpr, TypedExpr-F, fold-TypedExpr, roll-TypedExpr, fold-roll-TypedExpr, map-TypedExpr}
+use Rattle.ecf_lang.specs.declared.typed.TypedExpr.{TypedExpr, TypedExpr-F, roll-TypedExpr, fold-roll-TypedExpr, map-TypedExpr}
 use Rattle.ecf_lang.specs.declared.typed.TypedExpr.TheVariants as expr
-use Rattle.ecf_lang.specs.declared.typed.TypedCall.{TypedCall, TypedCall-F, fold-TypedCall, roll-TypedCall, fold-roll-TypedCall, map-TypedCall}
+use Rattle.ecf_lang.specs.declared.typed.TypedCall.{TypedCall, TypedCall-F, roll-TypedCall, fold-roll-TypedCall, map-TypedCall}
 use Rattle.ecf_lang.specs.declared.typed.TypedCall.TheVariants as call
-use Rattle.ecf_lang.specs.declared.typed.TypedStmt.{TypedStmt, TypedStmt-F, fold-TypedStmt, roll-TypedStmt, fold-roll-TypedStmt, map-TypedStmt}
+use Rattle.ecf_lang.specs.declared.typed.TypedStmt.{TypedStmt, TypedStmt-F, roll-TypedStmt, fold-roll-TypedStmt, map-TypedStmt}
 use Rattle.ecf_lang.specs.declared.typed.TypedStmt.TheVariants as stmt
-use Rattle.ecf_lang.specs.declared.typed.TypedBlock.{TypedBlock, TypedBlock-F, fold-TypedBlock, out-TypedBlock, fold_out-TypedBlock}
+use Rattle.ecf_lang.specs.declared.typed.TypedBlock.{TypedBlock, out-TypedBlock, fold_out-TypedBlock}
 use Rattle.ecf_lang.specs.declared.typed.Typed.{Typed}
 use Rattle.ecf_lang.specs.Store.{Store}
-use Rattle.ecf_lang.specs.Running.{State, Reached, Running, ◌>>=◌, ◌>>◌, pure, revert, write_cell}
-use Rattle.ecf_lang.specs.Meaning.{Frame, Flow, On, Back, Doing, value_of, answer_of, expr_step, call_step, stmt_of, block_of, stmt_step, block_step, charge, own, fetch, named, chain, all_true, any_true, first_then, each, at_zero, or_revert, applied, in_turn, flag_of, value_at, chosen, turns, assign, on, Ways, ways, deeper}
+use Rattle.ecf_lang.specs.Running.{State, Running, ◌>>=◌, ◌>>◌, pure, revert, write_cell}
+use Rattle.ecf_lang.specs.Meaning.{Frame, On, Back, Doing, value_of, answer_of, expr_step, call_step, stmt_of, block_of, stmt_step, block_step, charge, own, fetch, named, chain, all_true, any_true, first_then, each, at_zero, or_revert, applied, in_turn, flag_of, value_at, chosen, turns, assign, ways, tested, body_of, frame_of}
+use Rattle.ecf_lang.specs.Fits.{method_at}
 
 module _ (store : Store) (frame : Frame) where
   module _ (locals : List ℕ) where
@@ -99,7 +100,7 @@ module _ (store : Store) (frame : Frame) where
   pub stmt_set_at : (field : ℕ) (key e : TypedExpr) (locals : List ℕ) (s : State) → stmt_does (stmt.SetAt field key e) locals s ≡ (charge store frame 1 >> (value_at store frame key locals >>= (λ k. value_at store frame e locals >>= (λ v. charge store frame 4 >> (write_cell frame.inv (own store frame field k) v >> pure (On locals)))))) s
   stmt_set_at field key e locals s = ap (λ t. stmt_does t locals s) (sym (stmt.rolls-SetAt field key e)) ∙ ap (λ f. f locals s) (stmt_roll _)
 
-  pub stmt_while : (cond : TypedExpr) (body : TypedBlock) (locals : List ℕ) (s : State) → stmt_does (stmt.While cond body) locals s ≡ (charge store frame 1 >> (λ state. turns store frame state.fuel cond (block body) locals state)) s
+  pub stmt_while : (cond : TypedExpr) (body : TypedBlock) (locals : List ℕ) (s : State) → stmt_does (stmt.While cond body) locals s ≡ (charge store frame 1 >> (λ state. turns store frame (suc state.fuel) cond (block body) locals state)) s
   stmt_while cond body locals s = ap (λ t. stmt_does t locals s) (sym (stmt.rolls-While cond body)) ∙ ap (λ f. f locals s) (stmt_roll _)
 
   pub stmt_return : (e : TypedExpr) (locals : List ℕ) (s : State) → stmt_does (stmt.Return e) locals s ≡ (charge store frame 1 >> (value_at store frame e locals >>= (λ v. pure (Back v)))) s
@@ -119,7 +120,13 @@ module _ (store : Store) (frame : Frame) where
   unfolding stmt_of block_of
   block_is b locals s = ap (λ f. f locals s) (fold_out-TypedBlock Doing Doing (stmt_step store frame) (block_step store frame) b)
 
--- one more frame may be opened
-pub ways_suc : (typed : Typed) (store : Store) (room : ℕ) → ways typed store (suc room) ≡ deeper typed store (ways typed store room)
-unfolding ways
-ways_suc typed store room = refl
+module _ (typed : Typed) (store : Store) where
+  -- a new invocation, where one more frame may be opened
+  pub anew_is : (room to name : ℕ) (args : List ℕ) (s : State) → (ways typed store (suc room)).anew to name args s ≡ tested typed store (ways typed store room) to name args s
+  unfolding ways
+  anew_is room to name args s = refl
+
+  -- an internal call, where one more frame may be opened
+  pub within_is : (room here inv name : ℕ) (args : List ℕ) (s : State) → (ways typed store (suc room)).within here inv name args s ≡ body_of store (frame_of typed store (ways typed store room) here inv) (method_at typed here name) args s
+  unfolding ways
+  within_is room here inv name args s = refl

@@ -40,7 +40,7 @@ flag_of false = 0
 abbrev pub in_range : ℕ → Result ℕ Cause
 in_range n = if nat_lt n (2 ^ 128) then Ok n else Err Overflow
 
--- a quotient or remainder, which there is none by 0
+-- a quotient or remainder; there is none by 0
 abbrev pub divided : (ℕ → ℕ → ℕ) → ℕ → ℕ → Result ℕ Cause
 divided f x zero = Err DivZero
 divided f x (suc y) = Ok (f x (suc y))
@@ -64,14 +64,14 @@ abbrev pub or_revert : Result ℕ Cause → Running ℕ
 or_revert (Ok value) = pure value
 or_revert (Err cause) = revert cause
 
--- how a frame opens another: a method of its object in the same invocation; a method of an object in a new one;
--- and the same under a try
+-- what the calls in a frame do: to a method of the own object by name and arguments; to another object's method by
+-- object, name and arguments; and the latter under a try, which gives 1 or 0
 pub record Opens : Type 0 where
   pub inner : ℕ → List ℕ → Running ℕ
   pub outer : ℕ → ℕ → List ℕ → Running ℕ
   pub attempt : ℕ → ℕ → List ℕ → Running ℕ
 
--- where a frame runs: its object, its invocation, and how it opens others
+-- where a method's body runs: its object, its invocation, and what its calls do
 pub record Frame : Type 0 where
   pub here : ℕ
   pub inv : ℕ
@@ -115,7 +115,7 @@ module _ (store : Store) (frame : Frame) where
   each [] next = next []
   each (part ∷ parts) next = part >>= (λ x. each parts (λ xs. next (x ∷ xs)))
 
-  -- a call, from those of its parts
+  -- a call: its target, its arguments, its charge, and then what such calls do in the frame
   abbrev pub call_step : TypedCall-F (Running ℕ) (Running ℕ) → Running ℕ
   call_step (TypedCall-F.External target name args) =
       target >>= (λ to. each args (λ xs. charge 11 >> frame.opens.outer to name xs))
@@ -183,7 +183,7 @@ module _ (store : Store) (frame : Frame) where
   chosen ((cond, block) ∷ arms) last locals =
       value_at cond locals >>= (λ x. at_zero x (chosen arms last locals) (block locals))
 
-  -- a loop of at most so many turns, each of which takes fuel
+  -- a loop of at most so many turns
   unfoldable pub turns : ℕ → TypedExpr → Doing → Doing
   turns zero cond body locals state = Halts RunsOut (record state { fuel = 0 })
   turns (suc n) cond body locals state =
@@ -209,8 +209,9 @@ module _ (store : Store) (frame : Frame) where
       charge store frame 1 >> (value_at key locals >>= (λ k. value_at expr locals >>= (λ v.
       charge store frame 4 >> (write_cell frame.inv (own store frame field k) v >> pure (On locals)))))
   stmt_step (TypedStmt-F.If arms last) locals = charge store frame 1 >> chosen arms last locals
+  -- each turn takes fuel, so no loop makes more turns than there is fuel
   stmt_step (TypedStmt-F.While cond body) locals =
-      charge store frame 1 >> (λ state. turns state.fuel cond body locals state)
+      charge store frame 1 >> (λ state. turns (suc state.fuel) cond body locals state)
   stmt_step (TypedStmt-F.Return expr) locals = charge store frame 1 >> (value_at expr locals >>= (λ v. pure (Back v)))
   stmt_step (TypedStmt-F.Revert expr) locals = charge store frame 1 >> (value_at expr locals >>= (λ v. revert (User v)))
   stmt_step (TypedStmt-F.Do call) locals =
@@ -243,14 +244,14 @@ body_of store frame None args = revert NoMethod
 body_of store frame (Some method) args =
     block_of store frame method.body (locals_of method args) >>= (λ flow. pure (answered flow))
 
--- how frames are opened, so many of them still: within an invocation, and with a new one
+-- how methods are entered while so many more frames may be open: in an invocation that is there, and in a new one
 pub record Ways : Type 0 where
   -- from the object and the invocation, a method by its name
   pub within : ℕ → ℕ → ℕ → List ℕ → Running ℕ
   -- from the object to be called, a method by its name
   pub anew : ℕ → ℕ → List ℕ → Running ℕ
 
--- how a frame opens others; a call is heard by the invocation that made it
+-- what the calls in a frame do: what a call to another object, or a try, gives is kept among the caller's answers
 abbrev pub opens_of : Ways → ℕ → ℕ → Opens
 opens_of ways here inv = record {
   inner = λ name args. ways.within here inv name args;
@@ -259,11 +260,11 @@ opens_of ways here inv = record {
 }
 
 module _ (typed : Typed) (store : Store) where
-  -- a frame of an object and invocation, where others are opened in these ways
+  -- where a body of an object and an invocation runs, while methods are entered in these ways
   abbrev pub frame_of : Ways → ℕ → ℕ → Frame
   frame_of ways here inv = record { here = here; inv = inv; opens = opens_of ways here inv }
 
-  -- a new invocation of a method that the object has, where fewer than 1,024 were opened
+  -- a new invocation of a method, if the object has it
   abbrev pub invoke : Ways → ℕ → Option TypedMethod → ℕ → List ℕ → Running ℕ
   invoke ways to None name args = revert NoMethod
   invoke ways to (Some method) name args =
@@ -275,14 +276,14 @@ module _ (typed : Typed) (store : Store) where
   tested ways to name args state =
       (if nat_lt (length state.invocations) 1024 then invoke ways to (method_at typed to name) name args else revert Calls) state
 
-  -- one more frame over these ways
+  -- how methods are entered where one more frame may be open
   abbrev pub deeper : Ways → Ways
   deeper ways = record {
     within = λ here inv name args. body_of store (frame_of ways here inv) (method_at typed here name) args;
     anew = λ to name args. tested ways to name args;
   }
 
-  -- the ways to open frames where so many more may be open
+  -- how methods are entered while so many more frames may be open
   unfoldable pub ways : ℕ → Ways
   ways zero = record { within = λ here inv name args. revert Depth; anew = λ to name args. revert Depth }
   ways (suc room) = deeper (ways room)
@@ -344,5 +345,10 @@ run typed store tx = ran store tx.fuel (calls_of typed store tx.calls (fresh tx.
 -- a run as a program keeps it: all but the store after it, which is the store before it with the writes
 abbrev pub recorded : Ran → Run
 recorded r = record {
-    outcome = r.outcome; fuel = r.fuel; steps = r.steps; invocations = r.invocations; reads = r.reads; writes = r.writes
-  }
+  outcome = r.outcome;
+  fuel = r.fuel;
+  steps = r.steps;
+  invocations = r.invocations;
+  reads = r.reads;
+  writes = r.writes;
+}

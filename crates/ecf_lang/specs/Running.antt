@@ -9,7 +9,7 @@ use Rattle.ecf_lang.specs.Store.{Store, Cells, found, read, set}
 
 -- what a run has so far
 pub record State : Type 0 where
-  -- the fuel that is left
+  -- the fuel that is left; none once a charge was more than what was left
   pub fuel : ℕ
   -- the written cells with their present numbers, rising
   pub written : Cells
@@ -63,7 +63,7 @@ changed change invocations n = option_map_or (λ one. slice_set invocations n (c
 abbrev pub charged : ℕ → Invocation → Invocation
 charged n one = record one { own_fuel = one.own_fuel + n }
 
--- an answer that an invocation hears from one that it opened
+-- one more answer that an invocation got from its calls
 abbrev pub hearing : ℕ → Invocation → Invocation
 hearing value one = record one { answers = one.answers ++ value ∷ [] }
 
@@ -75,14 +75,14 @@ answering value one = record one { answer = Some value }
 abbrev pub undone : Invocation → Invocation
 undone one = record one { undone = true }
 
--- a charge in the invocation of that number, before what it pays for
+-- a charge in the invocation of that number; one that exceeds what is left takes the rest and ends the run
 unfoldable pub pay : ℕ → ℕ → Running Unit
 pay inv n state =
     if nat_le n state.fuel
     then Gives tt (record state { fuel = state.fuel - n; invocations = changed (charged n) state.invocations inv })
     else Halts RunsOut (record state { fuel = 0 })
 
--- what a cell holds now: what the run wrote last, else what the store holds
+-- what a cell holds now: what the run wrote last and didn't undo, else what the store holds
 abbrev pub present : Store → State → Cell → ℕ
 present store state cell = unwrap_or (found state.written cell) (read store cell)
 
@@ -127,7 +127,7 @@ back_to earlier later = record later {
   invocations = take (length earlier.invocations) later.invocations ++ map undone (drop (length earlier.invocations) later.invocations);
 }
 
--- whether a part answers; where it reverts it is undone, and want of fuel isn't caught
+-- a part under a try: 1 where it answers; where it reverts it is undone, and 0; want of fuel isn't caught
 unfoldable pub tried : Running ℕ → Running ℕ
 tried part state = caught state (part state)
   where

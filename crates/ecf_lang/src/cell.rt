@@ -1,7 +1,7 @@
 //! Cells, the places of a store, and whatever can be read like a store.
 
 ghost use Rattle.std.specs.Prelude.{◌≡◌};
-ghost use Rattle.ecf_lang.specs.Store.{Store, read};
+ghost use Rattle.ecf_lang.specs.Store.{Store, IsStore, read};
 ghost use Rattle.ecf_lang.specs.declared.cell.Cell.{Cell};
 
 /// A place of the store: a plain field has the key 0, a map has a cell for each key.
@@ -21,7 +21,8 @@ pub trait CellRead {
     /// The store that it stands for.
     ghost store: { Self → Store };
 
-    /// What the cell reads in that store: 0 where it is absent.
+    /// What the cell reads in that store; 0 where it is absent.
     fn get(&self, cell: Cell) -> u128
-        ensures { result ≡ read (store self.now) cell };
+        ensures value { result ≡ read (store self.now) cell }
+        ensures is_store { IsStore (store self.now) };
 }

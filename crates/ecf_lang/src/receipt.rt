@@ -28,7 +28,7 @@ pub enum Receipt {
     },
     Vetoed {
         object: u8,
-        /// The number of steps of the shortest part of the object's trace that isn't free.
+        /// The number of steps of the shortest prefix of the object's trace that isn't free.
         at: u32,
         cycle: Items<u16>,
         fuel: u32,

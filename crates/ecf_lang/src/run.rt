@@ -14,7 +14,7 @@ pub struct Step {
     pub value: u128,
 }
 
-/// A method that was opened from outside its object.
+/// An opened method: a transaction's own call, or a `call` or `try` in a method, of the own object too.
 #[derive(Debug, Drop)]
 pub struct Invocation {
     pub object: u8,

@@ -75,3 +75,121 @@ fn is_value(typed: &Typed, ty: Ty, value: u128) -> bool
         Ty::Addr => value < typed.objects.len() as u128,
     }
 }
+
+#[cfg(test)]
+mod tests {
+    use super::*;
+    use crate::name::Name;
+    use crate::typed::{Signature, TypedBlock, TypedMethod, TypedObject};
+    use std::alloc::{AllocError, Global};
+
+    fn object(alloc: Global, method: u16) -> Result<TypedObject, AllocError> {
+        let mut methods = Items::new(alloc);
+        methods.push(TypedMethod {
+            name: method,
+            locals: 3,
+            body: TypedBlock {
+                stmts: Items::new(alloc),
+            },
+        })?;
+        Ok(TypedObject {
+            name: Name::from_slice(alloc, b"A")?,
+            fields: Items::new(alloc),
+            methods,
+        })
+    }
+
+    // Two objects; the first has the method 0, which takes a number, a flag and an address, the second the method 1.
+    fn contract(alloc: Global) -> Result<Typed, AllocError> {
+        let mut objects = Items::new(alloc);
+        objects.push(object(alloc, 0)?)?;
+        objects.push(object(alloc, 1)?)?;
+        let mut names = Items::new(alloc);
+        names.push(Name::from_slice(alloc, b"take")?)?;
+        names.push(Name::from_slice(alloc, b"give")?)?;
+        let mut signatures = Items::new(alloc);
+        signatures.push(Signature {
+            params: Items::from_slice(alloc, &[Ty::Num, Ty::Flag, Ty::Addr])?,
+            answer: Ty::Num,
+        })?;
+        signatures.push(Signature {
+            params: Items::new(alloc),
+            answer: Ty::Num,
+        })?;
+        Ok(Typed {
+            objects,
+            names,
+            signatures,
+        })
+    }
+
+    fn asks(
+        alloc: Global,
+        fuel: u32,
+        times: usize,
+        object: u8,
+        method: u16,
+        args: &[u128],
+    ) -> Result<Tx, AllocError> {
+        let mut calls = Items::new(alloc);
+        for _ in 0..times {
+            calls.push(TxCall {
+                object,
+                method,
+                args: Items::from_slice(alloc, args)?,
+            })?;
+        }
+        Ok(Tx {
+            submitter: 1,
+            fuel,
+            calls,
+        })
+    }
+
+    #[test]
+    fn fits_what_can_run(rt: HostRuntime) -> Result<(), AllocError> {
+        let alloc = rt.alloc();
+        let contract = contract(alloc)?;
+        let most = u128::MAX;
+        assert!(rt; fits(&contract, &asks(alloc, 1, 1, 0, 0, &[most, 1, 1])?));
+        assert!(rt; fits(&contract, &asks(alloc, 1_000_000, 8, 1, 1, &[])?));
+        assert!(rt;
+            !fits(&contract, &asks(alloc, 0, 1, 0, 0, &[0, 0, 0])?),
+            "no fuel"
+        );
+        assert!(rt;
+            !fits(&contract, &asks(alloc, 1_000_001, 1, 0, 0, &[0, 0, 0])?),
+            "much fuel"
+        );
+        assert!(rt; !fits(&contract, &asks(alloc, 9, 0, 0, 0, &[])?), "no call");
+        assert!(rt;
+            !fits(&contract, &asks(alloc, 9, 9, 1, 1, &[])?),
+            "nine calls"
+        );
+        assert!(rt;
+            !fits(&contract, &asks(alloc, 9, 1, 2, 0, &[0, 0, 0])?),
+            "no object"
+        );
+        assert!(rt;
+            !fits(&contract, &asks(alloc, 9, 1, 1, 0, &[0, 0, 0])?),
+            "no method"
+        );
+        assert!(rt;
+            !fits(&contract, &asks(alloc, 9, 1, 0, 0, &[0, 2, 0])?),
+            "no flag"
+        );
+        assert!(rt;
+            !fits(&contract, &asks(alloc, 9, 1, 0, 0, &[0, 0, 2])?),
+            "no address"
+        );
+        assert!(rt;
+            !fits(&contract, &asks(alloc, 9, 1, 0, 0, &[0, 0])?),
+            "an argument less"
+        );
+        assert!(rt;
+            !fits(&contract, &asks(alloc, 9, 1, 1, 1, &[0])?),
+            "an argument more"
+        );
+        Ok(())
+    }
+}

@@ -1,0 +1,17 @@
+pub mod Evaluation
+pub mod Computed
+pub mod ArithmeticProof
+pub mod BankProof
+pub mod CallbackProof
+pub mod CallingProof
+pub mod ChargingProof
+pub mod CounterProof
+pub mod DepthProof
+pub mod LimitsProof
+pub mod LogicProof
+pub mod LoopProof
+pub mod OperatorsProof
+pub mod OrderProof
+pub mod RevertingProof
+pub mod RunAloneProof
+pub mod TryingProof

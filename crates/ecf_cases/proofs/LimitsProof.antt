@@ -1,0 +1,25 @@
+use Rattle.std.proofs.Common.{refl}
+use Rattle.std.specs.Prelude.{length}
+use Rattle.std.proofs.lemmas.Bool.{le-ltb, lt-ltb}
+use Rattle.ecf_lang.specs.Meaning.{ways}
+use Rattle.ecf_cases.specs.Limits.{DepthBeforeAll, DepthBeforeMethod, InvocationsBeforeMethod, MethodAtLast, InternalMethod}
+
+pub depth_before_all : DepthBeforeAll
+unfolding ways
+depth_before_all typed store to name args s = refl
+
+pub depth_before_method : DepthBeforeMethod
+unfolding ways
+depth_before_method typed store here inv name args s = refl
+
+pub invocations_before_method : InvocationsBeforeMethod
+unfolding ways
+invocations_before_method typed store room to name args s full = rw (le-ltb (length s.invocations) 1024 full)
+
+pub method_at_last : MethodAtLast
+unfolding ways
+method_at_last typed store room to name args s few missing = rw (missing, lt-ltb (length s.invocations) 1024 few)
+
+pub internal_method : InternalMethod
+unfolding ways
+internal_method typed store room here inv name args s missing = rw missing refl

@@ -1,0 +1,16 @@
+pub mod Words
+pub mod Arithmetic
+pub mod Bank
+pub mod Callback
+pub mod Calling
+pub mod Charging
+pub mod Counter
+pub mod Depth
+pub mod Limits
+pub mod Logic
+pub mod Loop
+pub mod Operators
+pub mod Order
+pub mod Reverting
+pub mod RunAlone
+pub mod Trying

@@ -1,0 +1,4 @@
+pub mod Complete
+pub mod Decimal
+pub mod Fronts
+pub mod Steps

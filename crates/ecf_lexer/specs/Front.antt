@@ -1,0 +1,28 @@
+-- What is found at the front of a text.
+use Rattle.std.specs.Prelude.{◌≡◌, ℕ, ◌^◌, ◌≤◌, List, length, drop, ⊤}
+use Rattle.ecf_grammar.specs.declared.tokens.Kind.TheVariants as kind
+use Rattle.ecf_grammar.specs.Reading.{Piece, bytes_of, Begins, BeginsLongest, BeginsToken, IsInRange}
+use Rattle.ecf_grammar.specs.Reading.Piece.{Blank, Comment, Lexeme}
+use Rattle.ecf_lexer.specs.declared.front.Front.{Front}
+use Rattle.ecf_lexer.specs.declared.front.Front.TheVariants.{Gap, Token, WideNumber}
+
+-- a piece that is no token
+abbrev pub IsGap : Piece → Type 0
+IsGap (Blank byte) = ⊤
+IsGap (Comment remark) = ⊤
+IsGap (Lexeme k bytes) = ⊥
+
+-- the text begins with this piece, of so many bytes, and with no longer one
+pub record IsFront (text : List ℕ) (piece : Piece) (len : ℕ) : Type 0 where
+  pub longest : BeginsLongest text piece (drop len text)
+  pub len_is : length (bytes_of piece) ≡ len
+
+-- what was found is the longest piece at the front of the text
+abbrev pub IsFrontOf : List ℕ → Front → Type 0
+IsFrontOf text (Gap len) = (piece : Piece) × IsGap piece × IsFront text piece len
+IsFrontOf text (Token k len) = (bytes : List ℕ) × IsInRange k × IsFront text (Lexeme k bytes) len
+IsFrontOf text WideNumber = (value : ℕ) × (2 ^ 128 ≤ value) × BeginsToken text (kind.Number value)
+
+-- no piece begins the text
+abbrev pub BeginsNothing : List ℕ → Type 0
+BeginsNothing text = (piece : Piece) (rest : List ℕ) → ¬ Begins text piece rest

@@ -1,0 +1,11 @@
+//! Cuts the text of a contract file into its tokens, by longest match, or finds its first fault.
+#![tactic(auto)]
+
+mod front;
+mod lexer;
+mod spelling;
+#[cfg(test)]
+mod tests;
+
+pub use ecf_grammar::{Kind, Sign, Token, Word};
+pub use lexer::{LexFault, MAX_SOURCE_BYTES, lex};

@@ -1,0 +1,5 @@
+use Rattle.ecf_verdicts.proofs.JournalLaws as laws
+use Rattle.ecf_verdicts.proofs.along_places.Goals as goal
+
+pub returns : goal.returns
+returns c = laws.along_places

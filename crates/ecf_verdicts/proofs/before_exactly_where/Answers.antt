@@ -1,0 +1,5 @@
+use Rattle.ecf_verdicts.proofs.PlaceLaws as laws
+use Rattle.ecf_verdicts.proofs.before_exactly_where.Goals as goal
+
+pub returns : goal.returns
+returns c = laws.before_exactly_where

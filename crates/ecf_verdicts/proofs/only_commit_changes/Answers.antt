@@ -1,0 +1,5 @@
+use Rattle.ecf_verdicts.proofs.SerialProved as laws
+use Rattle.ecf_verdicts.proofs.only_commit_changes.Goals as goal
+
+pub returns : goal.returns
+returns c = laws.only_commit_changes

@@ -1,0 +1,5 @@
+use Rattle.ecf_verdicts.proofs.CasesProved as laws
+use Rattle.ecf_verdicts.proofs.pays_first_case.Goals as goal
+
+pub returns : goal.returns
+returns c = laws.pays_first_case

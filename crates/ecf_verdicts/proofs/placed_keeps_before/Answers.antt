@@ -1,0 +1,5 @@
+use Rattle.ecf_verdicts.proofs.PlaceLaws as laws
+use Rattle.ecf_verdicts.proofs.placed_keeps_before.Goals as goal
+
+pub returns : goal.returns
+returns c = laws.placed_keeps_before

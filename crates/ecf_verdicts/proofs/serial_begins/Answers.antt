@@ -1,0 +1,5 @@
+use Rattle.ecf_verdicts.proofs.SerialProved as laws
+use Rattle.ecf_verdicts.proofs.serial_begins.Goals as goal
+
+pub returns : goal.returns
+returns c = laws.serial_begins

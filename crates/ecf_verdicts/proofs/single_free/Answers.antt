@@ -1,0 +1,5 @@
+use Rattle.ecf_verdicts.proofs.FreePlaced as laws
+use Rattle.ecf_verdicts.proofs.single_free.Goals as goal
+
+pub returns : goal.returns
+returns c = laws.single_free

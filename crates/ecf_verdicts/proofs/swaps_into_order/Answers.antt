@@ -1,0 +1,5 @@
+use Rattle.ecf_verdicts.proofs.Sorting as laws
+use Rattle.ecf_verdicts.proofs.swaps_into_order.Goals as goal
+
+pub returns : goal.returns
+returns c = laws.swaps_into_order

@@ -1,0 +1,5 @@
+use Rattle.ecf_verdicts.proofs.SwapLaws as laws
+use Rattle.ecf_verdicts.proofs.swaps_undone.Goals as goal
+
+pub returns : goal.returns
+returns c = laws.swaps_undone

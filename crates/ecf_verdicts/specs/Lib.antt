@@ -1,0 +1,13 @@
+pub mod Before
+pub mod Cases
+pub mod Conflicts
+pub mod Cycles
+pub mod Free
+pub mod Journals
+pub mod Laws
+pub mod Placing
+pub mod Receipts
+pub mod SerialLaws
+pub mod Swaps
+pub mod Traces
+pub mod Verdicts
