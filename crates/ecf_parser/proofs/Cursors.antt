@@ -1,12 +1,12 @@
 -- What a cursor's steps make of the readers of single lexemes.
-use Rattle.std.proofs.Common.{◌≡◌, ℕ, ◌+◌, ◌<◌, Bool, true, false, cond, List, [], ◌∷◌, length, Option, Some, None, IsSome, Ok, Err, refl, ap, map, arith}
+use Rattle.std.proofs.Common.{◌≡◌, ℕ, ◌+◌, true, false, cond, List, [], ◌∷◌, length, Option, Some, None, IsSome, Ok, Err, refl, ap, arith}
 use Rattle.ecf_grammar.specs.declared.tokens.Kind.{Kind}
 use Rattle.ecf_grammar.specs.declared.tokens.Kind.TheVariants as kind
 use Rattle.ecf_grammar.specs.declared.tokens.Token.{Token}
 use Rattle.ecf_grammar.specs.declared.tokens.Word.{Word}
 use Rattle.ecf_grammar.specs.declared.tokens.Sign.{Sign}
 use Rattle.ecf_lang.specs.declared.tree.Op.{Op}
-use Rattle.ecf_grammar.specs.Lexemes.{Lexeme, Numbered, lexeme, numbered, lexemes_of}
+use Rattle.ecf_grammar.specs.Lexemes.{Numbered, lexeme, numbered, lexemes_of}
 use Rattle.ecf_grammar.specs.Lexemes.Lexeme.{NameOf, NumberOf, WordOf, SignOf}
 use Rattle.ecf_parser.specs.Parsers.{next, number_of, behind, is_sign, is_word, kind_of, is_name, number_in, bytes_in, bytes_of, sign, word, name, number, eat_sign, eat_word, op_at}
 

@@ -1,5 +1,5 @@
 -- Lexemes have one answer, and one alone.
-use Rattle.std.proofs.Common.{◌≡◌, ℕ, zero, suc, ◌+◌, ◌-◌, ◌<◌, ◌≤◌, Bool, true, false, List, [], ◌∷◌, ◌++◌, ◌⊎◌, inl, inr, length, take, drop, get_or, count_by, leb, Option, Some, None, Ok, Err, refl, sym, ap, subst, ◌∙◌, arith, append_assoc}
+use Rattle.std.proofs.Common.{◌≡◌, ℕ, zero, suc, ◌+◌, ◌-◌, ◌<◌, ◌≤◌, Bool, true, false, List, [], ◌∷◌, ◌++◌, ◌⊎◌, inl, inr, length, take, drop, get_or, count_by, leb, Ok, Err, refl, sym, ap, subst, ◌∙◌, arith, append_assoc}
 use Rattle.std.proofs.lemmas.List.Sums.{count_by_more_yes, count_by_more_no}
 use Rattle.std.proofs.lemmas.Bool.Decides.{nat_tests}
 use Rattle.ecf_lang.specs.declared.tree.Tree.{Tree}
@@ -9,7 +9,7 @@ use Rattle.ecf_grammar.specs.Nesting.{opens, closes, nesting, nesting_limit, IsS
 use Rattle.ecf_grammar.specs.Spells.{Spells, BeginsFile, EndsFiles, IsOutOfPlace, IsTooDeep, IsFileOf, SomeAnswer, OneAnswer}
 use Rattle.ecf_parser.specs.Parsers.{Outcome}
 use Rattle.ecf_parser.specs.Descent.{file}
-use Rattle.ecf_parser.proofs.Faults.{nil_end, take_all, take_len, take_take, read_is_spelled, Stops, fault_stops, stop_len, fault_before, fault_ends}
+use Rattle.ecf_parser.proofs.Faults.{nil_end, take_all, take_len, take_take, read_is_spelled, fault_stops, stop_len, fault_before, fault_ends}
 
 -- ---- fronts
 
@@ -71,9 +71,9 @@ next_deep ls n false e h = inr (record { at = n; within = omega arith; deep = gr
 first_deep : (ls : List Lexeme) (n : ℕ) → IsShallow ls n ⊎ Deep ls n
 first_deep ls zero = inl (λ token lt within. absurd (omega arith))
 first_deep ls (suc n) = elim (first_deep ls n) [
-    | inl h ↦ next_deep ls n (leb (nesting ls n) nesting_limit) refl h
-    | inr d ↦ inr (record { at = d.at; within = omega (arith, d.within); deep = d.deep; shallow = d.shallow })
-  ]
+  | inl h ↦ next_deep ls n (leb (nesting ls n) nesting_limit) refl h
+  | inr d ↦ inr (record { at = d.at; within = omega (arith, d.within); deep = d.deep; shallow = d.shallow })
+]
 
 -- ---- some answer
 
@@ -83,11 +83,14 @@ Answer ls = ((tree : Tree) × IsFileOf ls tree) ⊎ (((token : ℕ) × IsOutOfPl
 all_shallow : (ls : List Lexeme) → IsShallow ls (length ls) → (o : Outcome Tree) → file (numbered 0 ls) ≡ o → Answer ls
 unfolding Answer
 all_shallow ls h (Ok p) e = inl (p.0, record { spelled = read_is_spelled ls p.0 p.1 e; shallow = h })
-all_shallow ls h (Err rest) e = inr (inl (length ls - length rest, record {
-  before = fault_before ls rest (fault_stops ls rest e);
-  with_it = fault_ends ls rest e;
-  shallow = λ token lt within. h token within within
-}))
+all_shallow ls h (Err rest) e = inr (inl (
+  length ls - length rest,
+  record {
+    before = fault_before ls rest (fault_stops ls rest e);
+    with_it = fault_ends ls rest e;
+    shallow = λ token lt within. h token within within;
+  },
+))
 
 too_deep : (ls : List Lexeme) (d : Deep ls (length ls)) → BeginsFile (take d.at ls) → Answer ls
 unfolding Answer
@@ -106,9 +109,9 @@ cut_fault ls d t c e =
       with_it = record {
         within = omega (arith, d.within);
         none = λ lt begins. ends.none (omega arith) (subst BeginsFile (sym (take_take (k + 1) d.at ls (omega arith))) begins);
-        over = λ same tree p. absurd (omega (arith, d.within))
+        over = λ same tree p. absurd (omega (arith, d.within));
       };
-      shallow = λ token lt within. d.shallow token (omega arith) within
+      shallow = λ token lt within. d.shallow token (omega arith) within;
     }
 
 some_deep : (ls : List Lexeme) (d : Deep ls (length ls)) (o : Outcome Tree) → file (numbered 0 (take d.at ls)) ≡ o → Answer ls
@@ -120,9 +123,9 @@ some_deep ls d (Err (t ∷ c)) e = inr (inl (length (take d.at ls) - length (t �
 pub some_answer : SomeAnswer
 unfolding Answer
 some_answer ls = elim (first_deep ls (length ls)) [
-    | inl h ↦ all_shallow ls h (file (numbered 0 ls)) refl
-    | inr d ↦ some_deep ls d (file (numbered 0 (take d.at ls))) refl
-  ]
+  | inl h ↦ all_shallow ls h (file (numbered 0 ls)) refl
+  | inr d ↦ some_deep ls d (file (numbered 0 (take d.at ls))) refl
+]
 
 -- ---- one answer
 
@@ -163,5 +166,5 @@ one_answer = record {
   file_or_deep = λ ls tree token p h. let small = p.shallow token h.within h.within in let deep = h.deep in omega arith;
   place_or_deep = place_not_deep;
   one_place = same_place;
-  one_deep = same_deep
+  one_deep = same_deep;
 }

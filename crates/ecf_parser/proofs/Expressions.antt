@@ -1,5 +1,5 @@
 -- The readers of expressions do well.
-use Rattle.std.proofs.Common.{◌≡◌, ℕ, zero, suc, ◌+◌, ◌-◌, ◌<◌, ◌≤◌, Bool, true, false, List, [], ◌∷◌, ◌++◌, length, Option, Some, None, Ok, Err, refl, sym, subst, arith}
+use Rattle.std.proofs.Common.{◌≡◌, ℕ, suc, ◌+◌, ◌-◌, ◌≤◌, Bool, true, false, List, [], ◌∷◌, ◌++◌, length, Option, Some, None, sym, subst}
 use Rattle.ecf_grammar.specs.declared.tokens.Kind.{Kind}
 use Rattle.ecf_grammar.specs.declared.tokens.Kind.TheVariants as kind
 use Rattle.ecf_grammar.specs.declared.tokens.Word.TheVariants as w
@@ -7,16 +7,15 @@ use Rattle.ecf_grammar.specs.declared.tokens.Sign.TheVariants as s
 use Rattle.ecf_lang.specs.declared.tree.Op.{Op}
 use Rattle.ecf_lang.specs.declared.tree.Expr.{Expr}
 use Rattle.ecf_lang.specs.declared.tree.Expr.TheVariants as e
-use Rattle.ecf_lang.specs.declared.tree.CallExpr.{CallExpr}
 use Rattle.ecf_lang.specs.declared.tree.CallExpr.TheVariants as c
-use Rattle.ecf_grammar.specs.Lexemes.{Lexeme, Numbered, numbered}
+use Rattle.ecf_grammar.specs.Lexemes.{Numbered}
 use Rattle.ecf_grammar.specs.Lexemes.Lexeme.{NameOf, NumberOf, WordOf, SignOf}
 use Rattle.ecf_grammar.specs.Spells.{Is, either_of, both_of, sum_of, product_of, comparison_op, sum_op, product_op, SpellsExpr, SpellsEithers, SpellsBoth, SpellsBoths, SpellsComparison, SpellsSum, SpellsSums, SpellsProduct, SpellsProducts, SpellsUnary, SpellsAtom, SpellsTarget, SpellsInvoke, SpellsExternal, SpellsArguments, SpellsExprs, SpellsFurther}
 use Rattle.ecf_grammar.specs.Spells.Is.{is}
-use Rattle.ecf_parser.specs.Parsers.{Outcome, Parser, ◌>>=◌, pure, refuse, choose, when, is_sign, is_word, sign, word, name, number, eat_sign, eat_word, operator, fix, each, chain, until, listed}
+use Rattle.ecf_parser.specs.Parsers.{Parser, ◌>>=◌, pure, refuse, is_sign, sign}
 use Rattle.ecf_parser.specs.Descent.{arguments, indexed, target_by, target, external, internal, invoke_by, invoke, atom_by, atom, unary, product, sum, compared, comparison, both, either, expr}
-use Rattle.ecf_parser.proofs.Lawful.{append_nil, Completes, Good, Lawful, fewer, bind, bind_less, last, nothing, refused, widen, chosen, tested, knot, knot_is}
-use Rattle.ecf_parser.proofs.Steps.{Eaten, Operator, Named, Numeral, less, of_sign, of_word, of_name, of_number, of_eat_sign, of_operator, of_each, of_chain, of_listed}
+use Rattle.ecf_parser.proofs.Lawful.{append_nil, Completes, Lawful, fewer, bind, bind_less, last, nothing, refused, widen, chosen, tested, knot, knot_is}
+use Rattle.ecf_parser.proofs.Steps.{Eaten, Operator, Named, less, of_sign, of_word, of_name, of_number, of_eat_sign, of_operator, of_each, of_chain, of_listed}
 use Rattle.ecf_parser.proofs.Steps.Eaten.{eaten, left}
 use Rattle.ecf_parser.proofs.Steps.Operator.{found, absent}
 
@@ -40,8 +39,8 @@ module _ (N : ℕ) (i j : Parser Expr) (h : Lawful N SpellsExpr i j) where
   pub arguments_law : Lawful (suc N) SpellsArguments (arguments i) (arguments j)
   unfolding arguments
   arguments_law = bind_less (of_sign s.OpenParen) (λ o at p K le.
-    bind (of_listed SpellsExpr SpellsFurther SpellsExprs s.Comma s.CloseParen SpellsFurther.no_further (λ c a b at x xs p r rs. SpellsFurther.further p r rs) SpellsExprs.no_expr (λ a b x xs r rs. SpellsExprs.exprs r rs) K i j (fewer K N (less K N p le) h)) (λ a args r.
-    last (λ _. args) (of_sign s.CloseParen) (λ c at2 q. SpellsArguments.arguments p r q)))
+      bind (of_listed SpellsExpr SpellsFurther SpellsExprs s.Comma s.CloseParen SpellsFurther.no_further (λ c a b at x xs p r rs. SpellsFurther.further p r rs) SpellsExprs.no_expr (λ a b x xs r rs. SpellsExprs.exprs r rs) K i j (fewer K N (less K N p le) h)) (λ a args r.
+      last (λ _. args) (of_sign s.CloseParen) (λ c at2 q. SpellsArguments.arguments p r q)))
 
   indexed_law : (n : Numbered) (x : ℕ × List ℕ) → Named n x → (o : Numbered) (b : Bool) → Eaten (SignOf s.OpenBracket) o b → (K : ℕ) → K ≤ suc N - length o → Lawful K (λ b y. SpellsTarget (n ++ (o ++ b)) y) (indexed i x b) (indexed j x b)
   indexed_law n x nm o true (eaten p) K le = bind (fewer K N (less K N p le) h) (λ a key r. last (λ _. e.At x.0 x.1 key) (of_sign s.CloseBracket) (λ c at q. SpellsTarget.indexed nm p r q))
@@ -89,8 +88,8 @@ module _ (N : ℕ) (i j : Parser Expr) (h : Lawful N SpellsExpr i j) where
   pub unary_law : Lawful (suc N) SpellsUnary (unary i) (unary j)
   unfolding unary
   unary_law = tested (is_sign s.Not) (sign s.Not >>= (λ at. atom i >>= (λ inner. pure (e.Not at inner)))) (sign s.Not >>= (λ at. atom j >>= (λ inner. pure (e.Not at inner)))) (atom i) (atom j)
-    (bind (of_sign s.Not) (λ o at p. last (λ inner. e.Not at inner) atom_law (λ a inner r. SpellsUnary.negated p r)))
-    (widen atom_law (λ a x r. SpellsUnary.plain r))
+      (bind (of_sign s.Not) (λ o at p. last (λ inner. e.Not at inner) atom_law (λ a inner r. SpellsUnary.negated p r)))
+      (widen atom_law (λ a x r. SpellsUnary.plain r))
 
   pub product_law : Lawful (suc N) SpellsProduct (product i) (product j)
   unfolding product

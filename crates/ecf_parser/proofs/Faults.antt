@@ -1,12 +1,11 @@
 -- What the outcome of reading a file says of its lexemes.
-use Rattle.std.proofs.Common.{◌≡◌, ℕ, zero, suc, ◌+◌, ◌-◌, ◌<◌, ◌≤◌, Bool, true, false, List, [], ◌∷◌, ◌++◌, length, take, drop, Option, Some, None, Ok, Err, refl, sym, ap, subst, ◌∙◌, arith, append_assoc, length-append}
+use Rattle.std.proofs.Common.{◌≡◌, ℕ, zero, suc, ◌+◌, ◌-◌, ◌<◌, ◌≤◌, List, [], ◌∷◌, ◌++◌, length, take, Ok, Err, refl, sym, ap, subst, ◌∙◌, arith, append_assoc, length-append}
 use Rattle.ecf_lang.specs.declared.tree.Tree.{Tree}
-use Rattle.ecf_lang.specs.declared.tree.ObjectDecl.{ObjectDecl}
 use Rattle.ecf_grammar.specs.Lexemes.{Lexeme, Numbered, numbered}
 use Rattle.ecf_grammar.specs.Spells.{SpellsFile, Spells, BeginsFile, EndsFiles, OneTree}
-use Rattle.ecf_parser.specs.Parsers.{Outcome, Parser, and_then, pure, next, fix_of, fix, until, until_turn}
+use Rattle.ecf_parser.specs.Parsers.{Outcome, Parser, and_then, pure, fix_of, fix, until, until_turn}
 use Rattle.ecf_parser.specs.Descent.{object, at_end, file}
-use Rattle.ecf_parser.proofs.Lawful.{append_nil, Completes, Good, Lawful, Agree, numbered_append}
+use Rattle.ecf_parser.proofs.Lawful.{append_nil, Completes, Good, Agree, numbered_append}
 use Rattle.ecf_parser.proofs.Lawful.Good.{reads, stuck}
 use Rattle.ecf_parser.proofs.Lawful.Agree.{both_ok, both_err, far_ok, far_err}
 use Rattle.ecf_parser.proofs.Files.{file_law}
@@ -127,7 +126,7 @@ fault_before lexemes rest h =
     let found = h.some k in
     let len : 0 + length front ≡ k = omega (arith, take_len k lexemes (omega (arith, stop_len lexemes rest h))) in
     let e : h.front ++ numbered k found.0 ≡ numbered 0 (front ++ found.0) =
-      ap (λ t. t ++ numbered k found.0) is_front ∙ ap (λ n. numbered 0 front ++ numbered n found.0) (sym len) ∙ sym (numbered_append 0 front found.0) in
+    ap (λ t. t ++ numbered k found.0) is_front ∙ ap (λ n. numbered 0 front ++ numbered n found.0) (sym len) ∙ sym (numbered_append 0 front found.0) in
     let spelled : Spells (front ++ found.0) found.1 = subst (λ t. SpellsFile t found.1) e found.2 in
     subst (λ n. BeginsFile (take n lexemes)) (sym at) (found.0, found.1, spelled)
 
@@ -166,5 +165,5 @@ pub fault_ends : (lexemes : List Lexeme) (rest : Numbered) → file (numbered 0 
 fault_ends lexemes rest e = record {
   within = omega arith;
   none = none_through lexemes rest e;
-  over = λ _ tree. none_at_all lexemes rest tree e
+  over = λ _ tree. none_at_all lexemes rest tree e;
 }

@@ -1,26 +1,22 @@
 -- The readers of members, objects and files do well.
-use Rattle.std.proofs.Common.{◌≡◌, ℕ, zero, suc, ◌+◌, ◌-◌, ◌<◌, ◌≤◌, Bool, true, false, List, [], ◌∷◌, ◌++◌, length, Option, Some, None, Ok, Err, refl, sym, subst, arith, length-append}
+use Rattle.std.proofs.Common.{ℕ, ◌<◌, Bool, true, false, ◌∷◌, ◌++◌, length, Option, Some, arith}
 use Rattle.ecf_grammar.specs.declared.tokens.Kind.{Kind}
 use Rattle.ecf_grammar.specs.declared.tokens.Kind.TheVariants as kind
 use Rattle.ecf_grammar.specs.declared.tokens.Word.TheVariants as w
 use Rattle.ecf_grammar.specs.declared.tokens.Sign.TheVariants as s
 use Rattle.ecf_lang.specs.declared.tree.Ty.{Ty}
-use Rattle.ecf_lang.specs.declared.tree.Ty.TheVariants as ty
-use Rattle.ecf_lang.specs.declared.tree.Const.{Const}
 use Rattle.ecf_lang.specs.declared.tree.Const.TheVariants as const
-use Rattle.ecf_lang.specs.declared.tree.Param.{Param}
 use Rattle.ecf_lang.specs.declared.tree.Member.{Member}
 use Rattle.ecf_lang.specs.declared.tree.Member.TheVariants as m
 use Rattle.ecf_lang.specs.declared.tree.ObjectDecl.{ObjectDecl}
-use Rattle.ecf_lang.specs.declared.tree.Tree.{Tree}
-use Rattle.ecf_grammar.specs.Lexemes.{Lexeme, Numbered, numbered}
-use Rattle.ecf_grammar.specs.Lexemes.Lexeme.{NameOf, NumberOf, WordOf, SignOf}
-use Rattle.ecf_grammar.specs.Spells.{Is, SpellsType, SpellsBlock, SpellsConst, SpellsEntry, SpellsParam, SpellsAll, SpellsMore, SpellsList, SpellsFirst, SpellsEntries, SpellsMember, SpellsObject, SpellsFile}
+use Rattle.ecf_grammar.specs.Lexemes.{Lexeme, Numbered}
+use Rattle.ecf_grammar.specs.Lexemes.Lexeme.{SignOf}
+use Rattle.ecf_grammar.specs.Spells.{Is, SpellsType, SpellsConst, SpellsEntry, SpellsParam, SpellsAll, SpellsMore, SpellsList, SpellsFirst, SpellsEntries, SpellsMember, SpellsObject, SpellsFile}
 use Rattle.ecf_grammar.specs.Spells.Is.{is}
-use Rattle.ecf_parser.specs.Parsers.{Outcome, Parser, ◌>>=◌, pure, refuse, choose, when, is_sign, is_word, sign, word, name, number, eat_sign, eat_word, operator, fix, each, chain, until, listed}
-use Rattle.ecf_parser.specs.Descent.{type_, block, const_by, constant, entry, param, first_by, first, entries_by, entries, field, map, method, member_by, member, object, at_end, file}
-use Rattle.ecf_parser.proofs.Lawful.{append_nil, Completes, Good, Lawful, fewer, bind, bind_less, last, nothing, refused, widen, chosen, tested}
-use Rattle.ecf_parser.proofs.Steps.{Eaten, Named, is_len, of_sign, of_word, of_name, of_number, of_eat_sign, of_until, of_listed}
+use Rattle.ecf_parser.specs.Parsers.{is_sign}
+use Rattle.ecf_parser.specs.Descent.{const_by, constant, entry, param, first_by, first, entries_by, entries, field, map, method, member_by, member, object, at_end, file}
+use Rattle.ecf_parser.proofs.Lawful.{Lawful, bind, last, nothing, chosen}
+use Rattle.ecf_parser.proofs.Steps.{Eaten, of_sign, of_word, of_name, of_number, of_eat_sign, of_until, of_listed}
 use Rattle.ecf_parser.proofs.Steps.Eaten.{eaten, left}
 use Rattle.ecf_parser.proofs.Statements.{type_law, block_law}
 

@@ -1,17 +1,8 @@
 -- What holds of readers, whatever they are put together from.
-use Rattle.std.proofs.Common.{◌≡◌, ℕ, zero, suc, ◌+◌, ◌-◌, ◌<◌, ◌≤◌, Bool, true, false, cond, List, [], ◌∷◌, ◌++◌, length, Option, Some, None, Ok, Err, refl, sym, ap, subst, ◌∙◌, arith, append_assoc, length-append}
-use denote.Enum.Bare.{sameb, same_true}
-use Rattle.ecf_grammar.specs.contracts.tokens.Sign as signs
-use Rattle.ecf_grammar.specs.contracts.tokens.Word as words
+use Rattle.std.proofs.Common.{◌≡◌, ℕ, zero, suc, ◌+◌, ◌-◌, ◌<◌, ◌≤◌, Bool, true, false, cond, List, [], ◌∷◌, ◌++◌, length, Option, Some, Ok, Err, refl, sym, ap, subst, ◌∙◌, arith, append_assoc, length-append}
 use Rattle.ecf_grammar.specs.declared.tokens.Kind.{Kind}
-use Rattle.ecf_grammar.specs.declared.tokens.Word.{Word}
-use Rattle.ecf_grammar.specs.declared.tokens.Sign.{Sign}
-use Rattle.ecf_lang.specs.declared.tree.Op.{Op}
 use Rattle.ecf_grammar.specs.Lexemes.{Lexeme, Numbered, numbered}
-use Rattle.ecf_grammar.specs.Lexemes.Lexeme.{NameOf, NumberOf, WordOf, SignOf}
-use Rattle.ecf_grammar.specs.Spells.{Is}
-use Rattle.ecf_grammar.specs.Spells.Is.{is}
-use Rattle.ecf_parser.specs.Parsers.{Outcome, Parser, and_then, ◌>>=◌, pure, refuse, choose, when, next, kind_of, number_of, behind, is_sign, is_word, sign, word, name, number, eat_sign, eat_word, op_at, took, operator, fix_of, fix, each_turn, each, chain_by, chain_turn, chain, until_turn, until, listed}
+use Rattle.ecf_parser.specs.Parsers.{Outcome, Parser, and_then, ◌>>=◌, pure, refuse, choose, when, next, kind_of, fix_of, fix}
 
 -- some lexemes complete these, from whatever number on
 abbrev pub Completes : {A : Type 0} → (Numbered → A → Type 0) → Numbered → Type 0
@@ -116,7 +107,7 @@ complete_both R1 R f a c goes = λ at.
     let then_ : Completes (λ b y. R (so_far ++ b) y) [] = possible (f first.1 []) (goes so_far first.1 first.2 []) in
     let second = then_ (at + length first.0) in
     let e : so_far ++ numbered (at + length first.0) second.0 ≡ a ++ numbered at (first.0 ++ second.0) =
-      append_assoc a (numbered at first.0) (numbered (at + length first.0) second.0) ∙ ap (λ t. a ++ t) (sym (numbered_append at first.0 second.0)) in
+    append_assoc a (numbered at first.0) (numbered (at + length first.0) second.0) ∙ ap (λ t. a ++ t) (sym (numbered_append at first.0 second.0)) in
     (first.0 ++ second.0, second.1, subst (λ t. R t second.1) e second.2)
 
 good_bind : {A B : Type 0} {R1 : Numbered → A → Type 0} {R : Numbered → B → Type 0} (ls : Numbered) (o : Outcome A) (f : A → Parser B) → Good R1 ls o → Goes R1 R f → Good R ls (and_then o f)
@@ -151,7 +142,7 @@ pub bind : {A B : Type 0} {N : ℕ} {R1 : Numbered → A → Type 0} {R : Number
 bind {A} {B} {N} {R1} {R} {p} {q} {f} {g} h k = record {
   good = λ ls. good_bind ls (p ls) f (h.good ls) (λ a x r. (k a x r).good);
   same = λ ls small. same_then ls (p ls) f g (h.good ls) (λ a rest x e r. (k a x r).same rest (omega (arith, rest_len ls a rest e))) ∙ ap (λ o. and_then o g) (h.same ls small);
-  steady = λ ls c d small. agree_then R1 R (ls ++ c) (p (ls ++ c)) (q (ls ++ d)) f g (h.steady ls c d small) (h.good (ls ++ c)) (λ a x r. (k a x r).good) (λ a r x e t. (k a x t).steady r c d (omega (arith, front_len ls c a r e)))
+  steady = λ ls c d small. agree_then R1 R (ls ++ c) (p (ls ++ c)) (q (ls ++ d)) f g (h.steady ls c d small) (h.good (ls ++ c)) (λ a x r. (k a x r).good) (λ a r x e t. (k a x t).steady r c d (omega (arith, front_len ls c a r e)));
 }
 
 -- the same where what the first takes leaves fewer for the second
@@ -159,7 +150,7 @@ pub bind_less : {A B : Type 0} {N : ℕ} {R1 : Numbered → A → Type 0} {R : N
 bind_less {A} {B} {N} {R1} {R} {p} {q} {f} {g} h k = record {
   good = λ ls. good_bind ls (p ls) f (h.good ls) (λ a x r. (k a x r 0 (omega arith)).good);
   same = λ ls small. same_then ls (p ls) f g (h.good ls) (λ a rest x e r. (k a x r (N - length a) (omega (arith, rest_len ls a rest e))).same rest (omega (arith, rest_len ls a rest e))) ∙ ap (λ o. and_then o g) (h.same ls small);
-  steady = λ ls c d small. agree_then R1 R (ls ++ c) (p (ls ++ c)) (q (ls ++ d)) f g (h.steady ls c d small) (h.good (ls ++ c)) (λ a x r. (k a x r 0 (omega arith)).good) (λ a r x e t. (k a x t (N - length a) (omega arith)).steady r c d (omega (arith, front_len ls c a r e)))
+  steady = λ ls c d small. agree_then R1 R (ls ++ c) (p (ls ++ c)) (q (ls ++ d)) f g (h.steady ls c d small) (h.good (ls ++ c)) (λ a x r. (k a x r 0 (omega arith)).good) (λ a r x e t. (k a x t (N - length a) (omega arith)).steady r c d (omega (arith, front_len ls c a r e)));
 }
 
 last_good : {A B : Type 0} {R1 : Numbered → A → Type 0} {R : Numbered → B → Type 0} (ls : Numbered) (o : Outcome A) (f : A → B) → Good R1 ls o → ((a : Numbered) (x : A) → R1 a x → R a (f x)) → Good R ls (and_then o (λ x. pure (f x)))
@@ -177,7 +168,7 @@ pub last : {A B : Type 0} {N : ℕ} {R1 : Numbered → A → Type 0} {R : Number
 last {A} {B} {N} {R1} {R} {p} {q} f h k = record {
   good = λ ls. last_good ls (p ls) f (h.good ls) k;
   same = λ ls small. ap (λ o. and_then o (λ x. pure (f x))) (h.same ls small);
-  steady = λ ls c d small. last_agree (p (ls ++ c)) (q (ls ++ d)) f (h.steady ls c d small)
+  steady = λ ls c d small. last_agree (p (ls ++ c)) (q (ls ++ d)) f (h.steady ls c d small);
 }
 
 pub nothing : {A : Type 0} {N : ℕ} {R : Numbered → A → Type 0} {x : A} → R [] x → Lawful N R (pure x) (pure x)
@@ -224,7 +215,7 @@ pub tested : {A : Type 0} {N : ℕ} {R : Numbered → A → Type 0} (test : Opti
 tested test p q v w h k = record {
   good = λ ls. by_test ls (test (next ls)) (p ls) (v ls) (h.good ls) (k.good ls);
   same = λ ls small. same_test (test (next ls)) (p ls) (v ls) (q ls) (w ls) (h.same ls small) (k.same ls small);
-  steady = test_agree test p q v w h k
+  steady = test_agree test p q v w h k;
 }
 
 -- ---- recursion
@@ -241,16 +232,16 @@ module _ {X A : Type 0} {S : Numbered → X → Type 0} {R : Numbered → A → 
   knot N i j h = record {
     good = λ ls. (of_of N i j h (suc (length ls)) 0 0 (omega arith) (omega arith) (omega arith)).good ls;
     same = λ ls small. (of_of N i j h (suc (length ls)) (suc (length ls)) (suc (length ls)) (omega arith) (omega arith) (omega arith)).same ls (omega arith);
-    steady = λ ls c d small. (of_of N i j h (suc (length (ls ++ c))) (suc (length (ls ++ d))) (suc (length ls)) (omega (arith, length-append ls c)) (omega (arith, length-append ls d)) (omega arith)).steady ls c d (omega arith)
+    steady = λ ls c d small. (of_of N i j h (suc (length (ls ++ c))) (suc (length (ls ++ d))) (suc (length ls)) (omega (arith, length-append ls c)) (omega (arith, length-append ls d)) (omega arith)).steady ls c d (omega arith);
   }
 
   pub knot_is : (i : Parser X) → ((N : ℕ) → Lawful N S i i) → (ls : Numbered) → fix (turn i) ls ≡ turn i (fix (turn i)) ls
   unfolding fix
   knot_is i i_law ls =
-    let N : ℕ = suc (length ls) in
-    let whole : Lawful (length ls) R (fix_of (turn i) (length ls)) (fix (turn i)) = record {
-      good = (of_of N i i (i_law N) (length ls) 0 0 (omega arith) (omega arith) (omega arith)).good;
-      same = λ ms small. (of_of N i i (i_law N) (length ls) (suc (length ms)) (suc (length ms)) (omega arith) (omega arith) (omega arith)).same ms (omega arith);
-      steady = λ ms c d small. (of_of N i i (i_law N) (length ls) (suc (length (ms ++ d))) (suc (length ms)) (omega arith) (omega (arith, length-append ms d)) (omega arith)).steady ms c d (omega arith)
-    } in
-    (law (length ls) i i (fix_of (turn i) (length ls)) (fix (turn i)) (i_law N) whole).same ls (omega arith)
+      let N : ℕ = suc (length ls) in
+      let whole : Lawful (length ls) R (fix_of (turn i) (length ls)) (fix (turn i)) = record {
+        good = (of_of N i i (i_law N) (length ls) 0 0 (omega arith) (omega arith) (omega arith)).good;
+        same = λ ms small. (of_of N i i (i_law N) (length ls) (suc (length ms)) (suc (length ms)) (omega arith) (omega arith) (omega arith)).same ms (omega arith);
+        steady = λ ms c d small. (of_of N i i (i_law N) (length ls) (suc (length (ms ++ d))) (suc (length ms)) (omega arith) (omega (arith, length-append ms d)) (omega arith)).steady ms c d (omega arith);
+      } in
+      (law (length ls) i i (fix_of (turn i) (length ls)) (fix (turn i)) (i_law N) whole).same ls (omega arith)

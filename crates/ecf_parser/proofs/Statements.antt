@@ -1,23 +1,22 @@
 -- The readers of statements do well.
-use Rattle.std.proofs.Common.{◌≡◌, ℕ, zero, suc, ◌+◌, ◌-◌, ◌<◌, ◌≤◌, Bool, true, false, List, [], ◌∷◌, ◌++◌, length, Option, Some, None, Ok, Err, refl, sym, subst, arith, length-append}
+use Rattle.std.proofs.Common.{◌≡◌, ℕ, suc, ◌+◌, ◌-◌, ◌<◌, ◌≤◌, Bool, true, false, List, [], ◌∷◌, ◌++◌, length, Option, Some, None, arith, length-append}
 use Rattle.ecf_grammar.specs.declared.tokens.Kind.{Kind}
 use Rattle.ecf_grammar.specs.declared.tokens.Kind.TheVariants as kind
 use Rattle.ecf_grammar.specs.declared.tokens.Word.TheVariants as w
 use Rattle.ecf_grammar.specs.declared.tokens.Sign.TheVariants as s
-use Rattle.ecf_lang.specs.declared.tree.Ty.{Ty}
 use Rattle.ecf_lang.specs.declared.tree.Ty.TheVariants as ty
 use Rattle.ecf_lang.specs.declared.tree.Expr.{Expr}
 use Rattle.ecf_lang.specs.declared.tree.CallExpr.{CallExpr}
 use Rattle.ecf_lang.specs.declared.tree.Stmt.{Stmt}
 use Rattle.ecf_lang.specs.declared.tree.Stmt.TheVariants as st
 use Rattle.ecf_lang.specs.declared.tree.Block.{Block, roll-Block}
-use Rattle.ecf_grammar.specs.Lexemes.{Lexeme, Numbered, numbered}
-use Rattle.ecf_grammar.specs.Lexemes.Lexeme.{NameOf, NumberOf, WordOf, SignOf}
-use Rattle.ecf_grammar.specs.Spells.{Is, SpellsExpr, SpellsInvoke, SpellsExternal, SpellsType, SpellsBlock, SpellsStmts, SpellsStmt, SpellsArm, SpellsElse}
+use Rattle.ecf_grammar.specs.Lexemes.{Lexeme, Numbered}
+use Rattle.ecf_grammar.specs.Lexemes.Lexeme.{NameOf, WordOf, SignOf}
+use Rattle.ecf_grammar.specs.Spells.{Is, SpellsExpr, SpellsInvoke, SpellsType, SpellsBlock, SpellsStmts, SpellsStmt, SpellsArm, SpellsElse}
 use Rattle.ecf_grammar.specs.Spells.Is.{is}
-use Rattle.ecf_parser.specs.Parsers.{Outcome, Parser, ◌>>=◌, pure, refuse, choose, when, is_sign, is_word, sign, word, name, number, eat_sign, eat_word, operator, fix, each, chain, until, listed}
+use Rattle.ecf_parser.specs.Parsers.{Parser, ◌>>=◌, pure, refuse, is_sign, is_word, sign, word}
 use Rattle.ecf_parser.specs.Descent.{external, invoke, expr, type_by, type_, value, let_value, let_, set_by, set, closed, arm, else_by, else_turn_by, else_turn, elses, if_, while, stmt_by, stmt, braced, block}
-use Rattle.ecf_parser.proofs.Lawful.{append_nil, Completes, Good, Lawful, fewer, bind, bind_less, last, nothing, refused, widen, chosen, tested, knot, knot_is}
+use Rattle.ecf_parser.proofs.Lawful.{Completes, Lawful, fewer, bind, bind_less, last, nothing, refused, chosen, tested, knot, knot_is}
 use Rattle.ecf_parser.proofs.Steps.{Eaten, Named, less, is_len, of_sign, of_word, of_name, of_eat_sign, of_eat_word, of_until}
 use Rattle.ecf_parser.proofs.Steps.Eaten.{eaten, left}
 use Rattle.ecf_parser.proofs.Expressions.{external_law, invoke_law, expr_law}

@@ -1,20 +1,18 @@
 -- The readers of single lexemes and of lists do well.
-use Rattle.std.proofs.Common.{◌≡◌, ℕ, zero, suc, ◌+◌, ◌-◌, ◌<◌, ◌≤◌, Bool, true, false, cond, List, [], ◌∷◌, ◌++◌, length, Option, Some, None, Ok, Err, refl, sym, ap, subst, ◌∙◌, arith, rules, append_assoc, length-append}
+use Rattle.std.proofs.Common.{◌≡◌, ℕ, suc, ◌-◌, ◌<◌, ◌≤◌, Bool, true, false, cond, List, [], ◌∷◌, ◌++◌, length, Option, Some, None, Ok, Err, refl, subst, arith, rules}
 use denote.Enum.Bare.{sameb, same_true}
 use Rattle.ecf_grammar.specs.contracts.tokens.Sign as signs
 use Rattle.ecf_grammar.specs.contracts.tokens.Word as words
 use Rattle.ecf_grammar.specs.declared.tokens.Kind.{Kind}
 use Rattle.ecf_grammar.specs.declared.tokens.Word.{Word}
-use Rattle.ecf_grammar.specs.declared.tokens.Word.TheVariants as w
 use Rattle.ecf_grammar.specs.declared.tokens.Sign.{Sign}
-use Rattle.ecf_grammar.specs.declared.tokens.Sign.TheVariants as s
 use Rattle.ecf_lang.specs.declared.tree.Op.{Op}
-use Rattle.ecf_grammar.specs.Lexemes.{Lexeme, Numbered, numbered}
+use Rattle.ecf_grammar.specs.Lexemes.{Lexeme, Numbered}
 use Rattle.ecf_grammar.specs.Lexemes.Lexeme.{NameOf, NumberOf, WordOf, SignOf}
 use Rattle.ecf_grammar.specs.Spells.{Is}
 use Rattle.ecf_grammar.specs.Spells.Is.{is}
-use Rattle.ecf_parser.specs.Parsers.{Outcome, Parser, and_then, ◌>>=◌, pure, refuse, choose, when, next, kind_of, number_of, behind, is_sign, is_word, sign, word, name, number, eat_sign, eat_word, op_at, took, operator, fix_of, fix, each_turn, each, chain_by, chain_turn, chain, until_turn, until, listed}
-use Rattle.ecf_parser.proofs.Lawful.{Completes, Good, Lawful, Local, single, fewer, bind, bind_less, last, nothing, refused, widen, chosen, tested, knot, knot_is}
+use Rattle.ecf_parser.specs.Parsers.{Parser, ◌>>=◌, pure, kind_of, is_sign, is_word, sign, word, name, number, eat_sign, eat_word, op_at, took, operator, each_turn, each, chain_by, chain_turn, chain, until_turn, until, listed}
+use Rattle.ecf_parser.proofs.Lawful.{Completes, Good, Lawful, Local, single, fewer, bind, bind_less, last, nothing, tested, knot, knot_is}
 use Rattle.ecf_parser.proofs.Lawful.Good.{reads, stuck}
 use Rattle.ecf_parser.proofs.Lawful.Local.{takes, leaves, fails}
 
@@ -90,7 +88,6 @@ eat_word_local t l = ate_or_not l (eat_word t) (is_word t (Some (kind_of l.1))) 
 operator_local : (table : Sign → Option Op) (l : ℕ × Lexeme) → Local l (operator table)
 unfolding operator
 operator_local table l = op_or_not l (operator table) (op_at table (Some (kind_of l.1))) (λ ls. refl)
-
 
 sign_by : (t : Sign) (at : ℕ) (u : Sign) (ls : Numbered) (b : Bool) → sameb signs.the_type u t ≡ b → Good (Is (SignOf t)) ((at, SignOf u) ∷ ls) (cond b (Ok (at, ls)) (Err ((at, SignOf u) ∷ ls)))
 sign_by t at u ls true e = let same : u ≡ t = same_true signs.the_type (search rules) u t e in reads ((at, SignOf u) ∷ []) ls at refl (subst (λ x. Is (SignOf x) ((at, SignOf u) ∷ []) at) same (is at))
@@ -199,7 +196,7 @@ of_operator {N} table = single N (operator table) (operator_good table) (operato
 
 module _ {A : Type 0} (S : Numbered → A → Type 0) (R : Numbered → List A → Type 0) (t : Sign) (nil : R [] []) (cons : (c a b : Numbered) (at : ℕ) (x : A) (xs : List A) → Is (SignOf t) c at → S a x → R b xs → R (c ++ (a ++ b)) (x ∷ xs)) where
   each_by : (M : ℕ) (i j : Parser A) (p q : Parser (List A)) → Lawful (suc M) S i j → Lawful M R p q → (c : Numbered) (found : Bool) → Eaten (SignOf t) c found → (K : ℕ) → K ≤ suc M - length c →
-    Lawful K (λ b xs. R (c ++ b) xs) (cond found (i >>= (λ x. p >>= (λ xs. pure (x ∷ xs)))) (pure [])) (cond found (j >>= (λ x. q >>= (λ xs. pure (x ∷ xs)))) (pure []))
+      Lawful K (λ b xs. R (c ++ b) xs) (cond found (i >>= (λ x. p >>= (λ xs. pure (x ∷ xs)))) (pure [])) (cond found (j >>= (λ x. q >>= (λ xs. pure (x ∷ xs)))) (pure []))
   each_by M i j p q h k c true (eaten {at = at} e) K le = bind (fewer K (suc M) (omega arith) h) (λ a x r. last (λ xs. x ∷ xs) (fewer K M (omega (arith, is_len e)) k) (λ b xs rs. cons c a b at x xs e r rs))
   each_by M i j p q h k c false left K le = nothing nil
 
@@ -216,7 +213,7 @@ module _ {A : Type 0} (S : Numbered → A → Type 0) (R : Numbered → List A �
 
 module _ {A : Type 0} (S : Numbered → A → Type 0) (R : Numbered → List (Op × A) → Type 0) (table : Sign → Option Op) (nil : R [] []) (cons : (c a b : Numbered) (t : Sign) (at : ℕ) (o : Op) (x : A) (xs : List (Op × A)) → Is (SignOf t) c at → table t ≡ Some o → S a x → R b xs → R (c ++ (a ++ b)) ((o, x) ∷ xs)) where
   chain_law_by : (M : ℕ) (i j : Parser A) (p q : Parser (List (Op × A))) → Lawful (suc M) S i j → Lawful M R p q → (c : Numbered) (o : Option Op) → Operator table c o → (K : ℕ) → K ≤ suc M - length c →
-    Lawful K (λ b xs. R (c ++ b) xs) (chain_by i p o) (chain_by j q o)
+      Lawful K (λ b xs. R (c ++ b) xs) (chain_by i p o) (chain_by j q o)
   chain_law_by M i j p q h k c (Some o) (found {t = t} {at = at} e is_op) K le = bind (fewer K (suc M) (omega arith) h) (λ a x r. last (λ xs. (o, x) ∷ xs) (fewer K M (omega (arith, is_len e)) k) (λ b xs rs. cons c a b t at o x xs e is_op r rs))
   chain_law_by M i j p q h k c None absent K le = nothing nil
 

@@ -1,6 +1,6 @@
 -- What is spelled is read: single lexemes and lists.
-use Rattle.std.proofs.Common.{◌≡◌, ℕ, zero, suc, ◌+◌, ◌-◌, ◌<◌, ◌≤◌, Bool, true, false, cond, List, [], ◌∷◌, ◌++◌, length, Option, Some, None, Ok, Err, refl, sym, ap, subst, ◌∙◌, arith, append_assoc}
-use denote.Enum.Bare.{sameb, true_same}
+use Rattle.std.proofs.Common.{◌≡◌, ℕ, Bool, true, false, cond, List, [], ◌∷◌, ◌++◌, Option, Some, None, Ok, Err, refl, sym, ap, subst, ◌∙◌, append_assoc}
+use denote.Enum.Bare.{true_same}
 use Rattle.ecf_grammar.specs.contracts.tokens.Sign as signs
 use Rattle.ecf_grammar.specs.contracts.tokens.Word as words
 use Rattle.ecf_grammar.specs.declared.tokens.Kind.{Kind}
@@ -10,9 +10,9 @@ use Rattle.ecf_grammar.specs.declared.tokens.Sign.{Sign}
 use Rattle.ecf_lang.specs.declared.tree.Op.{Op}
 use Rattle.ecf_grammar.specs.Lexemes.{Lexeme, Numbered}
 use Rattle.ecf_grammar.specs.Lexemes.Lexeme.{NameOf, NumberOf, WordOf, SignOf}
-use Rattle.ecf_grammar.specs.Spells.{Is, SpellsMore, SpellsList, SpellsAll}
+use Rattle.ecf_grammar.specs.Spells.{Is}
 use Rattle.ecf_grammar.specs.Spells.Is.{is}
-use Rattle.ecf_parser.specs.Parsers.{Outcome, Parser, and_then, ◌>>=◌, pure, choose, when, next, kind_of, number_of, behind, is_sign, is_word, sign, word, name, number, eat_sign, eat_word, op_at, took, operator, each_turn, each, chain_by, chain_turn, chain, until_turn, until, listed}
+use Rattle.ecf_parser.specs.Parsers.{Outcome, Parser, and_then, ◌>>=◌, pure, when, next, kind_of, behind, is_sign, is_word, sign, word, name, number, eat_sign, eat_word, op_at, took, operator, each_turn, each, chain_by, chain_turn, chain, until_turn, until, listed}
 
 -- ---- one behind the other
 
@@ -112,10 +112,10 @@ module _ {A : Type 0} (test : Option Kind → Bool) (item : Parser A) (opens : (
 
   pub until_goes : {x : A} {xs : List A} (a b rest : Numbered) → test (next (a ++ (b ++ rest))) ≡ false → item (a ++ (b ++ rest)) ≡ Ok (x, b ++ rest) → until test item (b ++ rest) ≡ Ok (xs, rest) → until test item ((a ++ b) ++ rest) ≡ Ok (x ∷ xs, rest)
   until_goes {x} {xs} a b rest e g k =
-    opens ((a ++ b) ++ rest)
-    ∙ ap (λ ls. (until_turn test item (until test item)) ls) (append_assoc a b rest)
-    ∙ ap (λ t. cond t (Ok ([], a ++ (b ++ rest))) ((item >>= (λ x. until test item >>= (λ xs. pure (x ∷ xs)))) (a ++ (b ++ rest)))) e
-    ∙ via _ g (via _ k refl)
+      opens ((a ++ b) ++ rest)
+      ∙ ap (λ ls. (until_turn test item (until test item)) ls) (append_assoc a b rest)
+      ∙ ap (λ t. cond t (Ok ([], a ++ (b ++ rest))) ((item >>= (λ x. until test item >>= (λ xs. pure (x ∷ xs)))) (a ++ (b ++ rest)))) e
+      ∙ via _ g (via _ k refl)
 
 -- none before the closing sign
 pub listed_none : {A : Type 0} (comma close : Sign) (item : Parser A) (rest : Numbered) → is_sign close (next rest) ≡ true → listed comma close item rest ≡ Ok ([], rest)

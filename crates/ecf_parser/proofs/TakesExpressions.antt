@@ -1,5 +1,5 @@
 -- What is spelled is read: expressions.
-use Rattle.std.proofs.Common.{◌≡◌, ℕ, zero, suc, ◌+◌, ◌-◌, ◌<◌, ◌≤◌, Bool, true, false, cond, List, [], ◌∷◌, ◌++◌, length, Option, Some, None, Ok, Err, refl, sym, ap, subst, ◌∙◌, arith, append_assoc}
+use Rattle.std.proofs.Common.{◌≡◌, ℕ, suc, ◌<◌, ◌≤◌, Bool, true, false, List, [], ◌∷◌, ◌++◌, Option, Some, None, Ok, refl, ◌∙◌, arith}
 use Rattle.ecf_grammar.specs.declared.tokens.Kind.{Kind}
 use Rattle.ecf_grammar.specs.declared.tokens.Kind.TheVariants as kind
 use Rattle.ecf_grammar.specs.declared.tokens.Word.TheVariants as w
@@ -10,13 +10,13 @@ use Rattle.ecf_lang.specs.declared.tree.Expr.{Expr}
 use Rattle.ecf_lang.specs.declared.tree.Expr.TheVariants as e
 use Rattle.ecf_lang.specs.declared.tree.CallExpr.{CallExpr}
 use Rattle.ecf_lang.specs.declared.tree.CallExpr.TheVariants as c
-use Rattle.ecf_grammar.specs.Lexemes.{Lexeme, Numbered}
+use Rattle.ecf_grammar.specs.Lexemes.{Numbered}
 use Rattle.ecf_grammar.specs.Lexemes.Lexeme.{NameOf, NumberOf, WordOf, SignOf}
 use Rattle.ecf_grammar.specs.Spells.{Is, either_of, both_of, sum_of, product_of, comparison_op, sum_op, product_op, SpellsExpr, SpellsEithers, SpellsBoth, SpellsBoths, SpellsComparison, SpellsSum, SpellsSums, SpellsProduct, SpellsProducts, SpellsUnary, SpellsAtom, SpellsTarget, SpellsInvoke, SpellsExternal, SpellsArguments, SpellsExprs, SpellsFurther}
 use Rattle.ecf_grammar.specs.Spells.Is.{is}
-use Rattle.ecf_parser.specs.Parsers.{Outcome, Parser, and_then, ◌>>=◌, pure, choose, when, next, kind_of, is_sign, is_word, sign, word, name, number, eat_sign, eat_word, op_at, operator, each_turn, each, chain_turn, chain, until, listed}
-use Rattle.ecf_parser.specs.Descent.{arguments, indexed, target_by, target, external, internal, invoke_by, invoke, atom_by, atom, unary, product, sum, compared, comparison, both, either, expr}
-use Rattle.ecf_parser.proofs.Lawful.{Lawful, fewer}
+use Rattle.ecf_parser.specs.Parsers.{◌>>=◌, pure, next, is_sign, is_word, sign, word, name, eat_sign, op_at, operator, each_turn, each, chain_turn, chain, listed}
+use Rattle.ecf_parser.specs.Descent.{arguments, target, external, internal, invoke, atom, unary, product, sum, comparison, both, either, expr}
+use Rattle.ecf_parser.proofs.Lawful.{fewer}
 use Rattle.ecf_parser.proofs.Steps.{each_is, chain_is}
 use Rattle.ecf_parser.proofs.Expressions.{expr_law, unary_law, product_law, comparison_law, both_law, expr_is}
 use Rattle.ecf_parser.proofs.Takes.{via, seq, when_no, when_yes, is_sign_self, sign_is, word_is, name_is, number_is, eats_sign, leaves_sign, takes_op, leaves_op, next_is, next_assoc, each_ends, each_goes, chain_ends, chain_goes, listed_none, listed_some}

@@ -1,6 +1,5 @@
 -- What is spelled is read: members, objects and files.
-use Rattle.std.proofs.Common.{◌≡◌, ℕ, zero, suc, ◌+◌, ◌-◌, ◌<◌, ◌≤◌, Bool, true, false, cond, List, [], ◌∷◌, ◌++◌, length, Option, Some, None, Ok, Err, refl, sym, ap, subst, ◌∙◌, arith, append_assoc}
-use Rattle.ecf_grammar.specs.declared.tokens.Kind.{Kind}
+use Rattle.std.proofs.Common.{◌≡◌, ℕ, true, false, List, [], ◌∷◌, ◌++◌, Option, Some, Ok, refl, sym, ap, ◌∙◌}
 use Rattle.ecf_grammar.specs.declared.tokens.Kind.TheVariants as kind
 use Rattle.ecf_grammar.specs.declared.tokens.Word.TheVariants as w
 use Rattle.ecf_grammar.specs.declared.tokens.Sign.{Sign}
@@ -12,13 +11,13 @@ use Rattle.ecf_lang.specs.declared.tree.Member.{Member}
 use Rattle.ecf_lang.specs.declared.tree.Member.TheVariants as m
 use Rattle.ecf_lang.specs.declared.tree.ObjectDecl.{ObjectDecl}
 use Rattle.ecf_lang.specs.declared.tree.Tree.{Tree}
-use Rattle.ecf_grammar.specs.Lexemes.{Lexeme, Numbered}
-use Rattle.ecf_grammar.specs.Lexemes.Lexeme.{NameOf, NumberOf, WordOf, SignOf}
+use Rattle.ecf_grammar.specs.Lexemes.{Numbered}
+use Rattle.ecf_grammar.specs.Lexemes.Lexeme.{NameOf, WordOf, SignOf}
 use Rattle.ecf_grammar.specs.Spells.{Is, SpellsType, SpellsBlock, SpellsConst, SpellsEntry, SpellsParam, SpellsAll, SpellsMore, SpellsList, SpellsFirst, SpellsEntries, SpellsMember, SpellsObject, SpellsFile}
 use Rattle.ecf_grammar.specs.Spells.Is.{is}
-use Rattle.ecf_parser.specs.Parsers.{Outcome, Parser, and_then, ◌>>=◌, pure, choose, when, next, kind_of, is_sign, is_word, sign, word, name, number, eat_sign, eat_word, each, each_turn, until, until_turn, listed}
-use Rattle.ecf_parser.specs.Descent.{type_, block, constant, entry, param, first_by, first, entries_by, entries, field, map, method, member, object, at_end, file}
-use Rattle.ecf_parser.proofs.Lawful.{append_nil, Lawful, Good}
+use Rattle.ecf_parser.specs.Parsers.{Parser, next, is_sign, sign, word, name, eat_sign, each, each_turn, until, until_turn, listed}
+use Rattle.ecf_parser.specs.Descent.{type_, constant, entry, param, first_by, first, entries_by, entries, field, map, method, member, object, at_end, file}
+use Rattle.ecf_parser.proofs.Lawful.{append_nil, Lawful}
 use Rattle.ecf_parser.proofs.Steps.{each_is, until_is}
 use Rattle.ecf_parser.proofs.Files.{entry_law, param_law, member_law, member_len, object_law, object_len}
 use Rattle.ecf_parser.proofs.Takes.{via, seq, is_sign_self, sign_is, word_is, name_is, number_is, eats_sign, leaves_sign, next_is, next_assoc, each_ends, each_goes, until_ends, until_goes, listed_none, listed_some}

@@ -1,5 +1,5 @@
 -- What is spelled is read: statements.
-use Rattle.std.proofs.Common.{◌≡◌, ℕ, zero, suc, ◌+◌, ◌-◌, ◌<◌, ◌≤◌, Bool, true, false, cond, List, [], ◌∷◌, ◌++◌, length, Option, Some, None, Ok, Err, refl, sym, ap, subst, ◌∙◌, arith, append_assoc}
+use Rattle.std.proofs.Common.{◌≡◌, ℕ, suc, Bool, true, false, List, [], ◌∷◌, ◌++◌, Option, Some, None, Ok, refl, ◌∙◌, arith}
 use Rattle.ecf_grammar.specs.declared.tokens.Kind.{Kind}
 use Rattle.ecf_grammar.specs.declared.tokens.Kind.TheVariants as kind
 use Rattle.ecf_grammar.specs.declared.tokens.Word.TheVariants as w
@@ -10,13 +10,13 @@ use Rattle.ecf_lang.specs.declared.tree.CallExpr.{CallExpr}
 use Rattle.ecf_lang.specs.declared.tree.Stmt.{Stmt}
 use Rattle.ecf_lang.specs.declared.tree.Stmt.TheVariants as st
 use Rattle.ecf_lang.specs.declared.tree.Block.{Block, roll-Block}
-use Rattle.ecf_grammar.specs.Lexemes.{Lexeme, Numbered}
-use Rattle.ecf_grammar.specs.Lexemes.Lexeme.{NameOf, NumberOf, WordOf, SignOf}
+use Rattle.ecf_grammar.specs.Lexemes.{Numbered}
+use Rattle.ecf_grammar.specs.Lexemes.Lexeme.{NameOf, WordOf, SignOf}
 use Rattle.ecf_grammar.specs.Spells.{Is, SpellsExpr, SpellsInvoke, SpellsExternal, SpellsType, SpellsBlock, SpellsStmts, SpellsStmt, SpellsArm, SpellsElse}
 use Rattle.ecf_grammar.specs.Spells.Is.{is}
-use Rattle.ecf_parser.specs.Parsers.{Outcome, Parser, and_then, ◌>>=◌, pure, choose, when, next, kind_of, is_sign, is_word, sign, word, name, number, eat_sign, eat_word, until, until_turn}
-use Rattle.ecf_parser.specs.Descent.{external, invoke, expr, type_, value, let_value, let_, set_by, set, closed, arm, else_by, else_turn_by, else_turn, elses, if_, while, stmt_by, stmt, braced, block}
-use Rattle.ecf_parser.proofs.Lawful.{Lawful, fewer}
+use Rattle.ecf_parser.specs.Parsers.{◌>>=◌, pure, next, is_sign, is_word, sign, word, name, eat_sign, eat_word, until, until_turn}
+use Rattle.ecf_parser.specs.Descent.{external, invoke, expr, type_, value, let_value, let_, set_by, set, closed, arm, else_by, else_turn_by, else_turn, elses, if_, while, stmt, braced, block}
+use Rattle.ecf_parser.proofs.Lawful.{fewer}
 use Rattle.ecf_parser.proofs.Steps.{until_is}
 use Rattle.ecf_parser.proofs.Statements.{stmt_law, stmt_len, block_law, block_is, elses_is}
 use Rattle.ecf_parser.proofs.Takes.{via, seq, when_no, when_yes, is_sign_self, is_word_self, sign_is, word_is, name_is, eats_sign, leaves_sign, eats_word, leaves_word, next_is, next_assoc, until_ends, until_goes}

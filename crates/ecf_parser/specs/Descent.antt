@@ -1,5 +1,5 @@
 -- The reading of a file from its first lexeme on: a function for each line of the grammar.
-use Rattle.std.specs.Prelude.{ℕ, Bool, true, false, if◌then◌else◌, List, [], ◌∷◌, Option, Some, None, Ok, Err}
+use Rattle.std.specs.Prelude.{ℕ, Bool, true, false, List, [], ◌∷◌, Option, Some, None}
 use Rattle.ecf_grammar.specs.declared.tokens.Kind.{Kind}
 use Rattle.ecf_grammar.specs.declared.tokens.Kind.TheVariants as kind
 use Rattle.ecf_grammar.specs.declared.tokens.Word.TheVariants as w
@@ -21,7 +21,6 @@ use Rattle.ecf_lang.specs.declared.tree.Member.{Member}
 use Rattle.ecf_lang.specs.declared.tree.Member.TheVariants as m
 use Rattle.ecf_lang.specs.declared.tree.ObjectDecl.{ObjectDecl}
 use Rattle.ecf_lang.specs.declared.tree.Tree.{Tree}
-use Rattle.ecf_grammar.specs.Lexemes.{Numbered}
 use Rattle.ecf_grammar.specs.Spells.{either_of, both_of, sum_of, product_of, comparison_op, sum_op, product_op}
 use Rattle.ecf_parser.specs.Parsers.{Parser, ◌>>=◌, pure, refuse, choose, when, is_sign, is_word, sign, word, name, number, eat_sign, eat_word, operator, fix, each, chain, until, listed}
 

@@ -1,5 +1,5 @@
 -- What reads lexemes from the front of a list, and the few ways to put such readers together.
-use Rattle.std.specs.Prelude.{◌≡◌, ◌≢◌, ℕ, zero, suc, ◌+◌, Bool, true, false, if◌then◌else◌, List, [], ◌∷◌, ◌++◌, length, Option, Some, None, Result, Ok, Err}
+use Rattle.std.specs.Prelude.{ℕ, zero, suc, Bool, true, false, if◌then◌else◌, List, [], ◌∷◌, ◌++◌, length, Option, Some, None, Result, Ok, Err}
 use denote.Enum.Bare.{sameb}
 use Rattle.ecf_grammar.specs.contracts.tokens.Sign as signs
 use Rattle.ecf_grammar.specs.contracts.tokens.Word as words
