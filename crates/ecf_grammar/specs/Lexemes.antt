@@ -1,0 +1,34 @@
+-- Lexemes are what the grammar sees of tokens: the bytes of a name, the value of a number, a word or a sign, and no place in the text.
+use Rattle.std.specs.Prelude.{ℕ, ◌+◌, List, [], ◌∷◌, map, slice_range}
+use Rattle.ecf_grammar.specs.declared.tokens.Kind.{Kind}
+use Rattle.ecf_grammar.specs.declared.tokens.Kind.TheVariants as kind
+use Rattle.ecf_grammar.specs.declared.tokens.Token.{Token}
+use Rattle.ecf_grammar.specs.declared.tokens.Word.{Word}
+use Rattle.ecf_grammar.specs.declared.tokens.Sign.{Sign}
+
+-- a name with its bytes, a number, a reserved word or a sign
+pub data Lexeme : Type 0 where
+  NameOf : List ℕ → Lexeme
+  NumberOf : ℕ → Lexeme
+  WordOf : Word → Lexeme
+  SignOf : Sign → Lexeme
+
+-- the lexeme of a kind, with these bytes where it is a name
+abbrev pub lexeme : Kind → List ℕ → Lexeme
+lexeme kind.Name bytes = NameOf bytes
+lexeme (kind.Number value) bytes = NumberOf value
+lexeme (kind.Word w) bytes = WordOf w
+lexeme (kind.Sign s) bytes = SignOf s
+
+-- the lexemes of tokens of that source
+abbrev pub lexemes_of : List ℕ → List Token → List Lexeme
+lexemes_of source = map (λ t. lexeme t.kind (slice_range source t.start t.end))
+
+-- lexemes, each behind the number of its token
+abbrev pub Numbered : Type 0
+Numbered = List (ℕ × Lexeme)
+
+-- lexemes whose tokens are numbered from there on
+abbrev pub numbered : ℕ → List Lexeme → Numbered
+numbered at [] = []
+numbered at (l ∷ ls) = (at, l) ∷ numbered (at + 1) ls

@@ -1,0 +1,13 @@
+pub mod Lawful
+pub mod Steps
+pub mod Expressions
+pub mod Statements
+pub mod Files
+pub mod Takes
+pub mod TakesExpressions
+pub mod TakesStatements
+pub mod TakesFiles
+pub mod Cursors
+pub mod Loops
+pub mod Faults
+pub mod Decided

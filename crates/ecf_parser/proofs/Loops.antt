@@ -1,0 +1,165 @@
+-- What the loops of the code keep: the items so far, in front of what reading the rest gives.
+use Rattle.std.proofs.Common.{◌≡◌, Bool, true, false, cond, List, [], ◌∷◌, ◌++◌, Option, Some, None, Ok, Err, refl, sym, ap, ◌∙◌, append_assoc}
+use Rattle.ecf_grammar.specs.declared.tokens.Kind.{Kind}
+use Rattle.ecf_grammar.specs.declared.tokens.Sign.{Sign}
+use Rattle.ecf_grammar.specs.declared.tokens.Sign.TheVariants as s
+use Rattle.ecf_lang.specs.declared.tree.Op.{Op}
+use Rattle.ecf_lang.specs.declared.tree.Expr.{Expr}
+use Rattle.ecf_grammar.specs.Lexemes.{Numbered}
+use Rattle.ecf_grammar.specs.Spells.{either_of, both_of, sum_of, product_of, sum_op, product_op}
+use Rattle.ecf_parser.specs.Parsers.{Outcome, Parser, and_then, ◌>>=◌, pure, next, behind, eat_sign, op_at, took, operator, each, each_turn, chain, chain_by, chain_turn, until, until_turn, front}
+use Rattle.ecf_parser.specs.Descent.{unary, product, sum, comparison, both, either, expr}
+use Rattle.ecf_parser.proofs.Expressions.{expr_is}
+use Rattle.ecf_parser.proofs.Takes.{via, each_found}
+use Rattle.ecf_parser.proofs.TakesExpressions.{unary_opens, product_opens, comparison_opens, both_opens, expr_opens}
+
+pub front_nil : {A : Type 0} (o : Outcome (List A)) → front [] o ≡ o
+front_nil (Ok p) = refl
+front_nil (Err e) = refl
+
+pub front_push : {A : Type 0} (xs : List A) (x : A) (o : Outcome (List A)) → front xs (and_then o (λ ys. pure (x ∷ ys))) ≡ front (xs ++ x ∷ []) o
+front_push xs x (Ok p) = ap (λ t. Ok (t, p.1)) (sym (append_assoc xs (x ∷ []) p.0))
+front_push xs x (Err e) = refl
+
+pub front_nothing : {A : Type 0} (xs : List A) → xs ++ [] ≡ xs
+front_nothing [] = refl
+front_nothing (x ∷ xs) = ap (λ t. x ∷ t) (front_nothing xs)
+
+module _ {A : Type 0} (t : Sign) (item : Parser A) (opens : (ls : Numbered) → each t item ls ≡ each_turn t item (each t item) ls) where
+  each_more : (xs : List A) (ls mid rest : Numbered) (x : A) → eat_sign t ls ≡ Ok (true, mid) → item mid ≡ Ok (x, rest) → front xs (each t item ls) ≡ front (xs ++ x ∷ []) (each t item rest)
+  unfolding each_found
+  each_more xs ls mid rest x e k = ap (front xs) (opens ls ∙ via (each_found item (each t item)) e (via _ k refl)) ∙ front_push xs x (each t item rest)
+
+  each_stuck : (xs : List A) (ls mid rest : Numbered) → eat_sign t ls ≡ Ok (true, mid) → item mid ≡ Err rest → front xs (each t item ls) ≡ Err rest
+  unfolding each_found
+  each_stuck xs ls mid rest e k = ap (front xs) (opens ls ∙ via (each_found item (each t item)) e (ap (λ o. and_then o (λ x. each t item >>= (λ xs. pure (x ∷ xs)))) k))
+
+  each_over : (xs : List A) (ls mid : Numbered) → eat_sign t ls ≡ Ok (false, mid) → front xs (each t item ls) ≡ Ok (xs, mid)
+  unfolding each_found
+  each_over xs ls mid e = ap (front xs) (opens ls ∙ via (each_found item (each t item)) e refl) ∙ ap (λ t. Ok (t, mid)) (front_nothing xs)
+
+module _ {A : Type 0} (table : Sign → Option Op) (item : Parser A) (opens : (ls : Numbered) → chain table item ls ≡ chain_turn table item (chain table item) ls) where
+  chain_more : (xs : List (Op × A)) (ls rest : Numbered) (o : Op) (x : A) → op_at table (next ls) ≡ Some o → item (behind ls) ≡ Ok (x, rest) → front xs (chain table item ls) ≡ front (xs ++ (o, x) ∷ []) (chain table item rest)
+  unfolding operator
+  chain_more xs ls rest o x e k = ap (front xs) (opens ls ∙ via (chain_by item (chain table item)) (ap (λ p. took p ls) e) (via _ k refl)) ∙ front_push xs (o, x) (chain table item rest)
+
+  chain_stuck : (xs : List (Op × A)) (ls rest : Numbered) (o : Op) → op_at table (next ls) ≡ Some o → item (behind ls) ≡ Err rest → front xs (chain table item ls) ≡ Err rest
+  unfolding operator
+  chain_stuck xs ls rest o e k = ap (front xs) (opens ls ∙ via (chain_by item (chain table item)) (ap (λ p. took p ls) e) (ap (λ z. and_then z (λ x. chain table item >>= (λ xs. pure ((o, x) ∷ xs)))) k))
+
+  chain_over : (xs : List (Op × A)) (ls : Numbered) → op_at table (next ls) ≡ None → front xs (chain table item ls) ≡ Ok (xs, ls)
+  unfolding operator
+  chain_over xs ls e = ap (front xs) (opens ls ∙ via (chain_by item (chain table item)) (ap (λ p. took p ls) e) refl) ∙ ap (λ t. Ok (t, ls)) (front_nothing xs)
+
+module _ {A : Type 0} (test : Option Kind → Bool) (item : Parser A) (opens : (ls : Numbered) → until test item ls ≡ until_turn test item (until test item) ls) where
+  pub until_more : (xs : List A) (ls rest : Numbered) (x : A) → test (next ls) ≡ false → item ls ≡ Ok (x, rest) → front xs (until test item ls) ≡ front (xs ++ x ∷ []) (until test item rest)
+  until_more xs ls rest x e k = ap (front xs) (opens ls ∙ ap (λ b. cond b (Ok ([], ls)) ((item >>= (λ x. until test item >>= (λ xs. pure (x ∷ xs)))) ls)) e ∙ via _ k refl) ∙ front_push xs x (until test item rest)
+
+  pub until_stuck : (xs : List A) (ls rest : Numbered) → test (next ls) ≡ false → item ls ≡ Err rest → front xs (until test item ls) ≡ Err rest
+  until_stuck xs ls rest e k = ap (front xs) (opens ls ∙ ap (λ b. cond b (Ok ([], ls)) ((item >>= (λ x. until test item >>= (λ xs. pure (x ∷ xs)))) ls)) e ∙ ap (λ z. and_then z (λ x. until test item >>= (λ xs. pure (x ∷ xs)))) k)
+
+  pub until_over : (xs : List A) (ls : Numbered) → test (next ls) ≡ true → front xs (until test item ls) ≡ Ok (xs, ls)
+  until_over xs ls e = ap (front xs) (opens ls ∙ ap (λ b. cond b (Ok ([], ls)) ((item >>= (λ x. until test item >>= (λ xs. pure (x ∷ xs)))) ls)) e) ∙ ap (λ t. Ok (t, ls)) (front_nothing xs)
+
+-- ---- `||`
+
+pub ors_more : (xs : List Expr) (ls mid rest : Numbered) (x : Expr) → eat_sign s.Or ls ≡ Ok (true, mid) → both expr mid ≡ Ok (x, rest) → front xs (each s.Or (both expr) ls) ≡ front (xs ++ x ∷ []) (each s.Or (both expr) rest)
+ors_more = each_more s.Or (both expr) both_opens
+
+pub ors_stuck : (xs : List Expr) (ls mid rest : Numbered) → eat_sign s.Or ls ≡ Ok (true, mid) → both expr mid ≡ Err rest → front xs (each s.Or (both expr) ls) ≡ Err rest
+ors_stuck = each_stuck s.Or (both expr) both_opens
+
+pub ors_over : (xs : List Expr) (ls mid : Numbered) → eat_sign s.Or ls ≡ Ok (false, mid) → front xs (each s.Or (both expr) ls) ≡ Ok (xs, mid)
+ors_over = each_over s.Or (both expr) both_opens
+
+pub either_done : (ls mid : Numbered) (x : Expr) (xs : List Expr) (rest : Numbered) → both expr ls ≡ Ok (x, mid) → each s.Or (both expr) mid ≡ Ok (xs, rest) → expr ls ≡ Ok (either_of x xs, rest)
+unfolding either
+either_done ls mid x xs rest e k = expr_is ls ∙ via _ e (via _ k refl)
+
+pub either_first : (ls rest : Numbered) → both expr ls ≡ Err rest → expr ls ≡ Err rest
+unfolding either
+either_first ls rest e = expr_is ls ∙ ap (λ o. and_then o (λ x. each s.Or (both expr) >>= (λ xs. pure (either_of x xs)))) e
+
+pub either_rest : (ls mid : Numbered) (x : Expr) (rest : Numbered) → both expr ls ≡ Ok (x, mid) → each s.Or (both expr) mid ≡ Err rest → expr ls ≡ Err rest
+unfolding either
+either_rest ls mid x rest e k = expr_is ls ∙ via _ e (ap (λ o. and_then o (λ xs. pure (either_of x xs))) k)
+
+-- ---- `&&`
+
+pub ands_more : (xs : List Expr) (ls mid rest : Numbered) (x : Expr) → eat_sign s.And ls ≡ Ok (true, mid) → comparison expr mid ≡ Ok (x, rest) → front xs (each s.And (comparison expr) ls) ≡ front (xs ++ x ∷ []) (each s.And (comparison expr) rest)
+ands_more = each_more s.And (comparison expr) comparison_opens
+
+pub ands_stuck : (xs : List Expr) (ls mid rest : Numbered) → eat_sign s.And ls ≡ Ok (true, mid) → comparison expr mid ≡ Err rest → front xs (each s.And (comparison expr) ls) ≡ Err rest
+ands_stuck = each_stuck s.And (comparison expr) comparison_opens
+
+pub ands_over : (xs : List Expr) (ls mid : Numbered) → eat_sign s.And ls ≡ Ok (false, mid) → front xs (each s.And (comparison expr) ls) ≡ Ok (xs, mid)
+ands_over = each_over s.And (comparison expr) comparison_opens
+
+pub both_done : (ls mid : Numbered) (x : Expr) (xs : List Expr) (rest : Numbered) → comparison expr ls ≡ Ok (x, mid) → each s.And (comparison expr) mid ≡ Ok (xs, rest) → both expr ls ≡ Ok (both_of x xs, rest)
+unfolding both
+both_done ls mid x xs rest e k = via _ e (via _ k refl)
+
+pub both_first : (ls rest : Numbered) → comparison expr ls ≡ Err rest → both expr ls ≡ Err rest
+unfolding both
+both_first ls rest e = ap (λ o. and_then o (λ x. each s.And (comparison expr) >>= (λ xs. pure (both_of x xs)))) e
+
+pub both_rest : (ls mid : Numbered) (x : Expr) (rest : Numbered) → comparison expr ls ≡ Ok (x, mid) → each s.And (comparison expr) mid ≡ Err rest → both expr ls ≡ Err rest
+unfolding both
+both_rest ls mid x rest e k = via _ e (ap (λ o. and_then o (λ xs. pure (both_of x xs))) k)
+
+-- ---- `+` and `-`
+
+pub terms_more : (xs : List (Op × Expr)) (ls rest : Numbered) (o : Op) (x : Expr) → op_at sum_op (next ls) ≡ Some o → product expr (behind ls) ≡ Ok (x, rest) → front xs (chain sum_op (product expr) ls) ≡ front (xs ++ (o, x) ∷ []) (chain sum_op (product expr) rest)
+terms_more = chain_more sum_op (product expr) product_opens
+
+pub terms_stuck : (xs : List (Op × Expr)) (ls rest : Numbered) (o : Op) → op_at sum_op (next ls) ≡ Some o → product expr (behind ls) ≡ Err rest → front xs (chain sum_op (product expr) ls) ≡ Err rest
+terms_stuck = chain_stuck sum_op (product expr) product_opens
+
+pub terms_over : (xs : List (Op × Expr)) (ls : Numbered) → op_at sum_op (next ls) ≡ None → front xs (chain sum_op (product expr) ls) ≡ Ok (xs, ls)
+terms_over = chain_over sum_op (product expr) product_opens
+
+pub sum_done : (ls mid : Numbered) (x : Expr) (xs : List (Op × Expr)) (rest : Numbered) → product expr ls ≡ Ok (x, mid) → chain sum_op (product expr) mid ≡ Ok (xs, rest) → sum expr ls ≡ Ok (sum_of x xs, rest)
+unfolding sum
+sum_done ls mid x xs rest e k = via _ e (via _ k refl)
+
+pub sum_first : (ls rest : Numbered) → product expr ls ≡ Err rest → sum expr ls ≡ Err rest
+unfolding sum
+sum_first ls rest e = ap (λ o. and_then o (λ x. chain sum_op (product expr) >>= (λ xs. pure (sum_of x xs)))) e
+
+pub sum_rest : (ls mid : Numbered) (x : Expr) (rest : Numbered) → product expr ls ≡ Ok (x, mid) → chain sum_op (product expr) mid ≡ Err rest → sum expr ls ≡ Err rest
+unfolding sum
+sum_rest ls mid x rest e k = via _ e (ap (λ o. and_then o (λ xs. pure (sum_of x xs))) k)
+
+-- ---- `*`, `/` and `%`
+
+pub factors_more : (xs : List (Op × Expr)) (ls rest : Numbered) (o : Op) (x : Expr) → op_at product_op (next ls) ≡ Some o → unary expr (behind ls) ≡ Ok (x, rest) → front xs (chain product_op (unary expr) ls) ≡ front (xs ++ (o, x) ∷ []) (chain product_op (unary expr) rest)
+factors_more = chain_more product_op (unary expr) unary_opens
+
+pub factors_stuck : (xs : List (Op × Expr)) (ls rest : Numbered) (o : Op) → op_at product_op (next ls) ≡ Some o → unary expr (behind ls) ≡ Err rest → front xs (chain product_op (unary expr) ls) ≡ Err rest
+factors_stuck = chain_stuck product_op (unary expr) unary_opens
+
+pub factors_over : (xs : List (Op × Expr)) (ls : Numbered) → op_at product_op (next ls) ≡ None → front xs (chain product_op (unary expr) ls) ≡ Ok (xs, ls)
+factors_over = chain_over product_op (unary expr) unary_opens
+
+pub product_done : (ls mid : Numbered) (x : Expr) (xs : List (Op × Expr)) (rest : Numbered) → unary expr ls ≡ Ok (x, mid) → chain product_op (unary expr) mid ≡ Ok (xs, rest) → product expr ls ≡ Ok (product_of x xs, rest)
+unfolding product
+product_done ls mid x xs rest e k = via _ e (via _ k refl)
+
+pub product_first : (ls rest : Numbered) → unary expr ls ≡ Err rest → product expr ls ≡ Err rest
+unfolding product
+product_first ls rest e = ap (λ o. and_then o (λ x. chain product_op (unary expr) >>= (λ xs. pure (product_of x xs)))) e
+
+pub product_rest : (ls mid : Numbered) (x : Expr) (rest : Numbered) → unary expr ls ≡ Ok (x, mid) → chain product_op (unary expr) mid ≡ Err rest → product expr ls ≡ Err rest
+unfolding product
+product_rest ls mid x rest e k = via _ e (ap (λ o. and_then o (λ xs. pure (product_of x xs))) k)
+
+-- ---- commas
+
+pub commas_more : (xs : List Expr) (ls mid rest : Numbered) (x : Expr) → eat_sign s.Comma ls ≡ Ok (true, mid) → expr mid ≡ Ok (x, rest) → front xs (each s.Comma expr ls) ≡ front (xs ++ x ∷ []) (each s.Comma expr rest)
+commas_more = each_more s.Comma expr expr_opens
+
+pub commas_stuck : (xs : List Expr) (ls mid rest : Numbered) → eat_sign s.Comma ls ≡ Ok (true, mid) → expr mid ≡ Err rest → front xs (each s.Comma expr ls) ≡ Err rest
+commas_stuck = each_stuck s.Comma expr expr_opens
+
+pub commas_over : (xs : List Expr) (ls mid : Numbered) → eat_sign s.Comma ls ≡ Ok (false, mid) → front xs (each s.Comma expr ls) ≡ Ok (xs, mid)
+commas_over = each_over s.Comma expr expr_opens
