@@ -1,6 +1,6 @@
 -- What is kept by each way in which parts of a run are made holds of what every form does, on two stores at once.
-use Rattle.std.proofs.Common.{◌≡◌, ℕ, zero, suc, Bool, true, false, List, [], ◌∷◌, map, Option, Some, None, refl, ap, sym, subst, ◌∙◌}
-use Rattle.std.specs.Prelude.{Result, Ok, Err, if◌then◌else◌, length, nat_lt, slice_set}
+use Rattle.std.proofs.Common.{◌≡◌, ℕ, zero, suc, Bool, true, false, List, [], ◌∷◌, map, Option, Some, None, sym, subst}
+use Rattle.std.specs.Prelude.{Result, Ok, Err, if◌then◌else◌, length, nat_lt}
 use Rattle.ecf_lang.specs.declared.cell.Cell.{Cell}
 use Rattle.ecf_lang.specs.declared.run.Cause.{Cause}
 use Rattle.ecf_lang.specs.declared.run.Cause.TheVariants.{User, NoMethod, Depth, Calls}
@@ -18,8 +18,8 @@ use Rattle.ecf_lang.specs.declared.typed.TypedBlock.{TypedBlock, TypedBlock-F, r
 use Rattle.ecf_lang.specs.declared.tx.TxCall.{TxCall}
 use Rattle.ecf_lang.specs.Fits.{method_at}
 use Rattle.ecf_lang.specs.Store.{Store}
-use Rattle.ecf_lang.specs.Running.{State, Halts, RunsOut, Running, after, ◌>>=◌, ◌>>◌, pure, revert, pay, read_cell, write_cell, note, hearing, answering, begin, tried}
-use Rattle.ecf_lang.specs.Meaning.{Opens, Frame, Flow, On, Back, Doing, on, value_of, answer_of, expr_step, call_step, stmt_of, block_of, stmt_step, block_step, charge, own, fetch, named, chain, all_true, any_true, first_then, each, at_zero, or_revert, applied, in_turn, flag_of, value_at, chosen, turns, assign, Ways, ways, deeper, tested, invoke, body_of, frame_of, opens_of, locals_of, answered, calls_of}
+use Rattle.ecf_lang.specs.Running.{State, Halts, RunsOut, Running, ◌>>=◌, pure, revert, pay, read_cell, write_cell, note, hearing, answering, begin, tried}
+use Rattle.ecf_lang.specs.Meaning.{Opens, Frame, Flow, On, Back, Doing, on, value_of, answer_of, expr_step, call_step, stmt_of, block_of, stmt_step, block_step, own, named, chain, all_true, any_true, first_then, each, at_zero, or_revert, applied, in_turn, flag_of, chosen, turns, assign, Ways, ways, deeper, invoke, body_of, opens_of, locals_of, answered, calls_of}
 
 -- the ways in which parts are made keep the relation: of a part in an invocation, or of one that is in none
 pub record Closed (A B : Store) (R : (T : Type 0) → Option ℕ → Running T → Running T → Type 0) : Type 1 where
@@ -139,13 +139,13 @@ module _ (A B : Store) (R : (T : Type 0) → Option ℕ → Running T → Runnin
 
     pub value_alike : (locals : List ℕ) (e : TypedExpr) → Value locals e
     value_alike locals = ind-TypedExpr (Answer locals) (Value locals)
-      (λ x y is. subst (λ l. Answer locals (roll-TypedCall l)) is (call_rolled locals _ (call_layer locals y)))
-      (λ x y is. subst (λ l. Value locals (roll-TypedExpr l)) is (expr_rolled locals _ (expr_layer locals y)))
+        (λ x y is. subst (λ l. Answer locals (roll-TypedCall l)) is (call_rolled locals _ (call_layer locals y)))
+        (λ x y is. subst (λ l. Value locals (roll-TypedExpr l)) is (expr_rolled locals _ (expr_layer locals y)))
 
     pub answer_alike : (locals : List ℕ) (c : TypedCall) → Answer locals c
     answer_alike locals = ind-TypedCall (Answer locals) (Value locals)
-      (λ x y is. subst (λ l. Answer locals (roll-TypedCall l)) is (call_rolled locals _ (call_layer locals y)))
-      (λ x y is. subst (λ l. Value locals (roll-TypedExpr l)) is (expr_rolled locals _ (expr_layer locals y)))
+        (λ x y is. subst (λ l. Answer locals (roll-TypedCall l)) is (call_rolled locals _ (call_layer locals y)))
+        (λ x y is. subst (λ l. Value locals (roll-TypedExpr l)) is (expr_rolled locals _ (expr_layer locals y)))
 
     abbrev DoesAlike : TypedStmt → Type 0
     DoesAlike t = (locals : List ℕ) → Alike (stmt_of A f t locals) (stmt_of B g t locals)
@@ -214,13 +214,13 @@ module _ (A B : Store) (R : (T : Type 0) → Option ℕ → Running T → Runnin
 
     pub stmt_alike : (t : TypedStmt) → DoesAlike t
     stmt_alike = ind-TypedStmt DoesAlike BlockAlike
-      (λ x y is. subst (λ l. DoesAlike (roll-TypedStmt l)) is (stmt_rolled _ (stmt_layer y)))
-      (λ x y is. subst (λ l. BlockAlike (roll-TypedBlock l)) is (block_rolled _ (block_layer y)))
+        (λ x y is. subst (λ l. DoesAlike (roll-TypedStmt l)) is (stmt_rolled _ (stmt_layer y)))
+        (λ x y is. subst (λ l. BlockAlike (roll-TypedBlock l)) is (block_rolled _ (block_layer y)))
 
     pub block_alike : (b : TypedBlock) → BlockAlike b
     block_alike = ind-TypedBlock DoesAlike BlockAlike
-      (λ x y is. subst (λ l. DoesAlike (roll-TypedStmt l)) is (stmt_rolled _ (stmt_layer y)))
-      (λ x y is. subst (λ l. BlockAlike (roll-TypedBlock l)) is (block_rolled _ (block_layer y)))
+        (λ x y is. subst (λ l. DoesAlike (roll-TypedStmt l)) is (stmt_rolled _ (stmt_layer y)))
+        (λ x y is. subst (λ l. BlockAlike (roll-TypedBlock l)) is (block_rolled _ (block_layer y)))
 
     pub body_alike : (method : Option TypedMethod) (args : List ℕ) → Alike (body_of A f method args) (body_of B g method args)
     body_alike None args = closed.reverts NoMethod
@@ -231,7 +231,7 @@ module _ (A B : Store) (R : (T : Type 0) → Option ℕ → Running T → Runnin
     pub within : (here inv name : ℕ) (args : List ℕ) → R _ (Some inv) (v.within here inv name args) (w.within here inv name args)
     pub anew : (to name : ℕ) (args : List ℕ) → R _ None (v.anew to name args) (w.anew to name args)
 
-  opens_alike : (v w : Ways) → WaysAlike v w → (here inv : ℕ) → OpensAlike inv (opens_of v here inv) (opens_of w here inv)
+  pub opens_alike : (v w : Ways) → WaysAlike v w → (here inv : ℕ) → OpensAlike inv (opens_of v here inv) (opens_of w here inv)
   opens_alike v w h here inv = record {
     inner = λ name args. h.within here inv name args;
     outer = λ to name args. closed.binds (closed.widens (h.anew to name args)) (λ x. closed.binds (closed.hears inv x) (λ _. closed.pures x));
