@@ -1,12 +1,15 @@
 -- What the meaning of a transaction promises.
-use Rattle.std.specs.Prelude.{ℕ, ◌≡◌, ◌≢◌, ◌≤◌, ◌<◌, List, []}
+use Rattle.std.specs.Prelude.{ℕ, ◌≡◌, ◌≢◌, ◌≤◌, ◌<◌, List, [], AllPairs}
+use Rattle.std.specs.Map.{keys_of}
 use Rattle.ecf_lang.specs.declared.run.Outcome.TheVariants.{Answer}
 use Rattle.ecf_lang.specs.declared.typed.Typed.{Typed}
 use Rattle.ecf_lang.specs.declared.typed.TypedExpr.{TypedExpr}
 use Rattle.ecf_lang.specs.declared.tx.Tx.{Tx}
-use Rattle.ecf_lang.specs.Store.{Store, with_writes}
+use Rattle.ecf_lang.specs.Store.{Store, Cells, IsRising, IsStore, with_writes}
+use Rattle.ecf_lang.specs.Genesis.{genesis}
+use Rattle.ecf_lang.specs.Draft.{AgreesWith, StandsFor}
 use Rattle.ecf_lang.specs.Running.{State}
-use Rattle.ecf_lang.specs.Meaning.{Frame, Doing, value_of, turns, run}
+use Rattle.ecf_lang.specs.Meaning.{Frame, Doing, value_of, turns, run, recorded}
 use Rattle.ecf_laws.specs.Parts.{NeverRaisesFuel, NoPartRaisesFuel}
 
 -- a run that doesn't answer leaves the store
@@ -36,3 +39,31 @@ MoreTurnsChangeNothing = (store : Store) (frame : Frame) (cond : TypedExpr) (bod
     ((locals : List ℕ) → NeverRaisesFuel (body locals)) →
     (m n : ℕ) (locals : List ℕ) (state : State) → state.fuel < m → state.fuel < n →
     turns store frame m cond body locals state ≡ turns store frame n cond body locals state
+
+-- what a run read is what the store held before it
+abbrev pub ReadsAreStored : Type 0
+ReadsAreStored = (typed : Typed) (store : Store) (tx : Tx) → AgreesWith (run typed store tx).reads store
+
+-- no cell stands twice among the reads of a run
+abbrev pub ReadsDiffer : Type 0
+ReadsDiffer = (typed : Typed) (store : Store) (tx : Tx) → AllPairs (λ a b. a ≢ b) (keys_of (run typed store tx).reads)
+
+-- the writes of a run rise by cell
+abbrev pub WritesRise : Type 0
+WritesRise = (typed : Typed) (store : Store) (tx : Tx) → IsRising (run typed store tx).writes
+
+-- a store after writes is a store
+abbrev pub WritesMakeStore : Type 0
+WritesMakeStore = (store : Store) (writes : Cells) → IsStore store → IsStore (with_writes store writes)
+
+-- a store after a run is a store
+abbrev pub RunMakesStore : Type 0
+RunMakesStore = (typed : Typed) (store : Store) (tx : Tx) → IsStore store → IsStore (run typed store tx).store
+
+-- a contract's store before its first transaction is a store
+abbrev pub GenesisIsStore : Type 0
+GenesisIsStore = (typed : Typed) → IsStore (genesis typed)
+
+-- a run, kept, stands for the run of its transaction on every store that agrees with its reads
+abbrev pub RunStands : Type 0
+RunStands = (typed : Typed) (store : Store) (tx : Tx) → StandsFor typed tx (recorded (run typed store tx))

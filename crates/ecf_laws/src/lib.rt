@@ -2,7 +2,7 @@
 //! does nothing.
 #![tactic(auto)]
 
-ghost use Rattle.ecf_laws.specs.Laws.{EndsWithWrites, FuelNeverRises, FuelWithinLimit, MoreTurnsChangeNothing, UnansweredLeavesStore, UnansweredWritesNothing};
+ghost use Rattle.ecf_laws.specs.Laws.{EndsWithWrites, FuelNeverRises, FuelWithinLimit, GenesisIsStore, MoreTurnsChangeNothing, ReadsAreStored, ReadsDiffer, RunMakesStore, RunStands, UnansweredLeavesStore, UnansweredWritesNothing, WritesMakeStore, WritesRise};
 
 /// A run that doesn't answer leaves the store.
 pub fn unanswered_leaves_store()
@@ -32,4 +32,39 @@ pub fn fuel_never_rises()
 /// All numbers of turns above the fuel mean the same loop.
 pub fn more_turns_change_nothing()
     ensures { MoreTurnsChangeNothing }
+{}
+
+/// What a run read is what its store held.
+pub fn reads_are_stored()
+    ensures { ReadsAreStored }
+{}
+
+/// No cell stands twice among the reads of a run.
+pub fn reads_differ()
+    ensures { ReadsDiffer }
+{}
+
+/// The writes of a run rise by cell.
+pub fn writes_rise()
+    ensures { WritesRise }
+{}
+
+/// A store after writes is a store.
+pub fn writes_make_store()
+    ensures { WritesMakeStore }
+{}
+
+/// A store after a run is a store.
+pub fn run_makes_store()
+    ensures { RunMakesStore }
+{}
+
+/// A contract's store before its first transaction is a store.
+pub fn genesis_is_store()
+    ensures { GenesisIsStore }
+{}
+
+/// A run, kept, stands for the run of its transaction on every store that agrees with its reads.
+pub fn run_stands()
+    ensures { RunStands }
 {}
