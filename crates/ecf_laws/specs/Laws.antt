@@ -1,7 +1,11 @@
 -- What the meaning of a transaction promises.
-use Rattle.std.specs.Prelude.{ℕ, ◌≡◌, ◌≢◌, ◌≤◌, ◌<◌, List, [], AllPairs}
+use Rattle.std.specs.Prelude.{ℕ, ◌≡◌, ◌≢◌, ◌≤◌, ◌<◌, List, [], All, AllPairs, false, slice_get}
+use Rattle.std.specs.List.{sum_by}
+use Rattle.std.specs.Option.{IsSomeAnd}
 use Rattle.std.specs.Map.{keys_of}
-use Rattle.ecf_lang.specs.declared.run.Outcome.TheVariants.{Answer}
+use Rattle.ecf_lang.specs.declared.run.Step.{Step}
+use Rattle.ecf_lang.specs.declared.run.Invocation.{Invocation}
+use Rattle.ecf_lang.specs.declared.run.Outcome.TheVariants.{Answer, OutOfFuel}
 use Rattle.ecf_lang.specs.declared.typed.Typed.{Typed}
 use Rattle.ecf_lang.specs.declared.typed.TypedExpr.{TypedExpr}
 use Rattle.ecf_lang.specs.declared.tx.Tx.{Tx}
@@ -11,6 +15,14 @@ use Rattle.ecf_lang.specs.Draft.{AgreesWith, StandsFor}
 use Rattle.ecf_lang.specs.Running.{State}
 use Rattle.ecf_lang.specs.Meaning.{Frame, Doing, value_of, turns, run, recorded}
 use Rattle.ecf_laws.specs.Parts.{NeverRaisesFuel, NoPartRaisesFuel}
+
+-- the fuel charged in these invocations
+abbrev pub charged_in : List Invocation → ℕ
+charged_in invocations = sum_by (λ one. one.own_fuel) invocations
+
+-- the step is of one of these invocations, and that wasn't undone
+abbrev pub IsOfStanding : List Invocation → Step → Type 0
+IsOfStanding invocations step = IsSomeAnd (slice_get invocations step.inv) (λ one. one.undone ≡ false)
 
 -- a run that doesn't answer leaves the store
 abbrev pub UnansweredLeavesStore : Type 0
@@ -67,3 +79,15 @@ GenesisIsStore = (typed : Typed) → IsStore (genesis typed)
 -- a run, kept, stands for the run of its transaction on every store that agrees with its reads
 abbrev pub RunStands : Type 0
 RunStands = (typed : Typed) (store : Store) (tx : Tx) → StandsFor typed tx (recorded (run typed store tx))
+
+-- where the run doesn't run out of fuel, the fuel used is what was charged in its invocations, undone ones among them
+abbrev pub FuelAddsUp : Type 0
+FuelAddsUp = (typed : Typed) (store : Store) (tx : Tx) → (run typed store tx).outcome ≢ OutOfFuel → charged_in (run typed store tx).invocations ≡ (run typed store tx).fuel
+
+-- what was charged in a run's invocations is at most the fuel used
+abbrev pub ChargedIsUsed : Type 0
+ChargedIsUsed = (typed : Typed) (store : Store) (tx : Tx) → charged_in (run typed store tx).invocations ≤ (run typed store tx).fuel
+
+-- each step is of one of the run's invocations, and of none that was undone
+abbrev pub UndoneStepsVanish : Type 0
+UndoneStepsVanish = (typed : Typed) (store : Store) (tx : Tx) → All (IsOfStanding (run typed store tx).invocations) (run typed store tx).steps

@@ -2,7 +2,7 @@
 //! does nothing.
 #![tactic(auto)]
 
-ghost use Rattle.ecf_laws.specs.Laws.{EndsWithWrites, FuelNeverRises, FuelWithinLimit, GenesisIsStore, MoreTurnsChangeNothing, ReadsAreStored, ReadsDiffer, RunMakesStore, RunStands, UnansweredLeavesStore, UnansweredWritesNothing, WritesMakeStore, WritesRise};
+ghost use Rattle.ecf_laws.specs.Laws.{ChargedIsUsed, EndsWithWrites, FuelAddsUp, FuelNeverRises, FuelWithinLimit, GenesisIsStore, MoreTurnsChangeNothing, ReadsAreStored, ReadsDiffer, RunMakesStore, RunStands, UnansweredLeavesStore, UnansweredWritesNothing, UndoneStepsVanish, WritesMakeStore, WritesRise};
 
 /// A run that doesn't answer leaves the store.
 pub fn unanswered_leaves_store()
@@ -67,4 +67,19 @@ pub fn genesis_is_store()
 /// A run, kept, stands for the run of its transaction on every store that agrees with its reads.
 pub fn run_stands()
     ensures { RunStands }
+{}
+
+/// Where a run doesn't run out of fuel, it used what was charged in its invocations, undone ones among them.
+pub fn fuel_adds_up()
+    ensures { FuelAddsUp }
+{}
+
+/// What was charged in a run's invocations is at most the fuel used.
+pub fn charged_is_used()
+    ensures { ChargedIsUsed }
+{}
+
+/// Each step of a run is of one of its invocations, and of none that was undone.
+pub fn undone_steps_vanish()
+    ensures { UndoneStepsVanish }
 {}
