@@ -7,9 +7,9 @@ use Rattle.ecf_lang.specs.declared.typed.TypedExpr.{TypedExpr}
 use Rattle.ecf_lang.specs.declared.typed.Typed.{Typed}
 use Rattle.ecf_lang.specs.Store.{Store}
 use Rattle.ecf_lang.specs.Running.{State, Reached, Gives, Halts, Reverts, RunsOut, Running, after, ◌>>=◌, ◌>>◌, pure, pay, read_cell, write_cell, tried}
-use Rattle.ecf_lang.specs.Meaning.{Frame, Flow, On, Back, Doing, on, at_zero, charge, opens_of, ways, value_of, turns}
-use Rattle.ecf_laws.specs.Parts.{led, NeverRaisesFuel, NoPartRaisesFuel}
-use Rattle.ecf_laws.specs.Laws.{FuelNeverRises, MoreTurnsChangeNothing}
+use Rattle.ecf_lang.specs.Meaning.{Frame, Flow, On, Back, Doing, on, at_zero, charge, opens_of, ways, block_of, value_of, turns}
+use Rattle.ecf_laws.specs.Parts.{frame_in, led, NeverRaisesFuel, NoPartRaisesFuel}
+use Rattle.ecf_laws.specs.Laws.{FuelNeverRises, MoreTurnsChangeNothing, RunsEndLoopsByFuel}
 use Rattle.ecf_laws.proofs.Parts as parts
 
 abbrev Falls : (T : Type 0) → Option ℕ → Running T → Running T → Type 0
@@ -105,3 +105,8 @@ module _ (store : Store) (frame : Frame) (cond : TypedExpr) (body : Doing) (cond
 
 pub more_turns_change_nothing : MoreTurnsChangeNothing
 more_turns_change_nothing store frame cond body c b m n locals s h k = same_turns store frame cond body c b m n locals s h k
+
+pub runs_end_loops_by_fuel : RunsEndLoopsByFuel
+runs_end_loops_by_fuel typed store room here inv cond body m n locals s h k =
+    more_turns_change_nothing store (frame_in typed store room here inv) cond (block_of store (frame_in typed store room here inv) body)
+    (λ locals. (fuel_never_rises typed store).values room here inv locals cond) (λ locals. (fuel_never_rises typed store).blocks room here inv locals body) m n locals s h k

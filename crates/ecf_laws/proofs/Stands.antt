@@ -9,10 +9,10 @@ use Rattle.ecf_lang.specs.declared.tx.Tx.{Tx}
 use Rattle.ecf_lang.specs.declared.typed.Typed.{Typed}
 use Rattle.ecf_lang.specs.Store.{Store, IsRising, IsStore, with_writes, read}
 use Rattle.ecf_lang.specs.Running.{Reached, Gives, Halts}
-use Rattle.ecf_lang.specs.Meaning.{run, ran, calls_of, fresh}
+use Rattle.ecf_lang.specs.Meaning.{run, ran, recorded, calls_of, fresh}
 use Rattle.ecf_lang.specs.Draft.{AgreesWith}
 use Rattle.ecf_laws.specs.Parts.{led}
-use Rattle.ecf_laws.specs.Laws.{ReadsAreStored, ReadsDiffer, WritesRise, RunMakesStore, RunStands}
+use Rattle.ecf_laws.specs.Laws.{ReadsAreStored, ReadsDiffer, WritesRise, RunMakesStore, RunStands, SameReadsSameRun}
 use Rattle.ecf_laws.proofs.Parts as parts
 use Rattle.ecf_laws.proofs.Reading as reading
 use Rattle.ecf_laws.proofs.Stores.{writes_make_store}
@@ -79,3 +79,15 @@ run_stands typed A tx B is_store agrees =
       invocations = ap (λ q. (ran B tx.fuel q).invocations) same ∙ also.invocations;
       ends = ap (λ q. (ran B tx.fuel q).store) same ∙ also.ends;
     }
+
+same_recorded : (A B : Store) (limit : ℕ) (r : Reached ℕ) → recorded (ran B limit r) ≡ recorded (ran A limit r)
+same_recorded A B limit (Gives value state) = refl
+same_recorded A B limit (Halts halt state) = refl
+
+pub same_reads_same_run : SameReadsSameRun
+unfolding run
+same_reads_same_run typed A B tx agrees =
+    let r : Reached ℕ = calls_of typed A tx.calls (fresh tx.fuel) in
+    let t : Reached ℕ = calls_of typed B tx.calls (fresh tx.fuel) in
+    let same : t ≡ r = (goes typed A B tx).same (subst (λ l. AgreesWith l B) (reads_led A tx.fuel r) agrees) in
+    ap (λ q. recorded (ran B tx.fuel q)) same ∙ same_recorded A B tx.fuel r

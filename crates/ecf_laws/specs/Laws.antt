@@ -8,13 +8,15 @@ use Rattle.ecf_lang.specs.declared.run.Invocation.{Invocation}
 use Rattle.ecf_lang.specs.declared.run.Outcome.TheVariants.{Answer, OutOfFuel}
 use Rattle.ecf_lang.specs.declared.typed.Typed.{Typed}
 use Rattle.ecf_lang.specs.declared.typed.TypedExpr.{TypedExpr}
+use Rattle.ecf_lang.specs.declared.typed.TypedBlock.{TypedBlock}
 use Rattle.ecf_lang.specs.declared.tx.Tx.{Tx}
 use Rattle.ecf_lang.specs.Store.{Store, Cells, IsRising, IsStore, with_writes}
 use Rattle.ecf_lang.specs.Genesis.{genesis}
 use Rattle.ecf_lang.specs.Draft.{AgreesWith, StandsFor}
 use Rattle.ecf_lang.specs.Running.{State}
-use Rattle.ecf_lang.specs.Meaning.{Frame, Doing, value_of, turns, run, recorded}
-use Rattle.ecf_laws.specs.Parts.{NeverRaisesFuel, NoPartRaisesFuel}
+use Rattle.ecf_lang.specs.Meaning.{Frame, Doing, block_of, value_of, turns, run, recorded}
+use Rattle.ecf_laws.specs.Parts.{NeverRaisesFuel, NoPartRaisesFuel, frame_in}
+use Rattle.ecf_laws.specs.Replay.{AreSeen, after_steps}
 
 -- the fuel charged in these invocations
 abbrev pub charged_in : List Invocation → ℕ
@@ -40,6 +42,10 @@ EndsWithWrites = (typed : Typed) (store : Store) (tx : Tx) → (run typed store 
 abbrev pub FuelWithinLimit : Type 0
 FuelWithinLimit = (typed : Typed) (store : Store) (tx : Tx) → (run typed store tx).fuel ≤ tx.fuel
 
+-- a run that runs out of fuel used its whole limit
+abbrev pub OutOfFuelUsesAll : Type 0
+OutOfFuelUsesAll = (typed : Typed) (store : Store) (tx : Tx) → (run typed store tx).outcome ≡ OutOfFuel → (run typed store tx).fuel ≡ tx.fuel
+
 -- fuel never rises along any part of a run
 abbrev pub FuelNeverRises : Type 0
 FuelNeverRises = (typed : Typed) (store : Store) → NoPartRaisesFuel typed store
@@ -51,6 +57,12 @@ MoreTurnsChangeNothing = (store : Store) (frame : Frame) (cond : TypedExpr) (bod
     ((locals : List ℕ) → NeverRaisesFuel (body locals)) →
     (m n : ℕ) (locals : List ℕ) (state : State) → state.fuel < m → state.fuel < n →
     turns store frame m cond body locals state ≡ turns store frame n cond body locals state
+
+-- so it is of every loop in a frame of a run
+abbrev pub RunsEndLoopsByFuel : Type 0
+RunsEndLoopsByFuel = (typed : Typed) (store : Store) (room here inv : ℕ) (cond : TypedExpr) (body : TypedBlock) (m n : ℕ) (locals : List ℕ) (state : State) → state.fuel < m → state.fuel < n →
+    turns store (frame_in typed store room here inv) m cond (block_of store (frame_in typed store room here inv) body) locals state ≡
+    turns store (frame_in typed store room here inv) n cond (block_of store (frame_in typed store room here inv) body) locals state
 
 -- what a run read is what the store held before it
 abbrev pub ReadsAreStored : Type 0
@@ -79,6 +91,18 @@ GenesisIsStore = (typed : Typed) → IsStore (genesis typed)
 -- a run, kept, stands for the run of its transaction on every store that agrees with its reads
 abbrev pub RunStands : Type 0
 RunStands = (typed : Typed) (store : Store) (tx : Tx) → StandsFor typed tx (recorded (run typed store tx))
+
+-- two stores that agree on what a run reads give the same run
+abbrev pub SameReadsSameRun : Type 0
+SameReadsSameRun = (typed : Typed) (store other : Store) (tx : Tx) → AgreesWith (run typed store tx).reads other → recorded (run typed other tx) ≡ recorded (run typed store tx)
+
+-- each read step of a run has the number of the last write step before it on its cell, else the store's
+abbrev pub ReadsSeeWrites : Type 0
+ReadsSeeWrites = (typed : Typed) (store : Store) (tx : Tx) → AreSeen store [] (run typed store tx).steps
+
+-- the writes of a run that answers are the cells of its write steps, with the last number of each
+abbrev pub WritesAreOfSteps : Type 0
+WritesAreOfSteps = (typed : Typed) (store : Store) (tx : Tx) (value : ℕ) → (run typed store tx).outcome ≡ Answer value → (run typed store tx).writes ≡ after_steps [] (run typed store tx).steps
 
 -- where the run doesn't run out of fuel, the fuel used is what was charged in its invocations, undone ones among them
 abbrev pub FuelAddsUp : Type 0
