@@ -12,15 +12,9 @@ use Rattle.ecf_lang.specs.declared.run.Invocation.{Invocation}
 use Rattle.ecf_lang.specs.Store.{Store}
 use Rattle.ecf_lang.specs.Running.{State, Reached, Gives, Halts, Reverts, RunsOut, Running, after, pay, read_cell, write_cell, tried, begin, note, changed, charged, hearing, answering, undone}
 use Rattle.ecf_laws.specs.Parts.{led}
+use Rattle.ecf_laws.proofs.Options.{some_is}
 use Rattle.ecf_laws.specs.Laws.{charged_in}
 use Rattle.ecf_laws.proofs.Parts as parts
-
-some_is : {A : Type 0} {a b : A} → Some a ≡ Some b → a ≡ b
-some_is {A} {a} h = ap or_a h
-  where
-    or_a : Option A → A
-    or_a None = a
-    or_a (Some c) = c
 
 -- which of the invocations were undone
 abbrev pub marks : List Invocation → List Bool

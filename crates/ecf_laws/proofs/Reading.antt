@@ -15,17 +15,11 @@ use Rattle.ecf_lang.specs.Store.{Store, Cells, IsRising, cell_cmp, found, read}
 use Rattle.ecf_lang.specs.Running.{State, Reached, Gives, Halts, Reverts, RunsOut, Running, after, pay, read_cell, write_cell, tried, noted, begin}
 use Rattle.ecf_lang.specs.Draft.{AgreesWith}
 use Rattle.ecf_laws.specs.Parts.{led}
+use Rattle.ecf_laws.proofs.Options.{some_is}
 use Rattle.ecf_laws.proofs.Parts as parts
 use Rattle.ecf_laws.proofs.Stores.{cell_cmp_total, cell_exact, set_rises}
 
 -- pairs and the cells found among them
-
-some_is : {A : Type 0} {a b : A} → Some a ≡ Some b → a ≡ b
-some_is {A} {a} h = ap or_a h
-  where
-    or_a : Option A → A
-    or_a None = a
-    or_a (Some c) = c
 
 found_is : (pairs : Cells) (store : Store) (cell : Cell) (value : ℕ) → AgreesWith pairs store → found pairs cell ≡ Some value → read store cell ≡ value
 found_is [] store cell value agrees h = absurd (cc)

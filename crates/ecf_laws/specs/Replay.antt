@@ -1,5 +1,5 @@
 -- Steps, gone through again one after the other.
-use Rattle.std.specs.Prelude.{◌≡◌, false, if◌then◌else◌, unwrap_or, List, [], ◌∷◌}
+use Rattle.std.specs.Prelude.{⊤, ◌≡◌, false, if◌then◌else◌, unwrap_or, List, [], ◌∷◌}
 use Rattle.ecf_lang.specs.declared.run.Step.{Step}
 use Rattle.ecf_lang.specs.Store.{Store, Cells, found, read, set}
 
@@ -18,5 +18,5 @@ IsSeen store written step = step.write ≡ false → step.value ≡ unwrap_or (f
 
 -- each read among the steps, the first of which finds these cells written
 abbrev pub AreSeen : Store → Cells → List Step → Type 0
-AreSeen store written [] = Unit {0}
+AreSeen store written [] = ⊤
 AreSeen store written (step ∷ steps) = IsSeen store written step × AreSeen store (after_step written step) steps
