@@ -14,8 +14,8 @@ use Rattle.ecf_lang.specs.Store.{Store, Cells, IsRising, IsStore, with_writes}
 use Rattle.ecf_lang.specs.Genesis.{genesis}
 use Rattle.ecf_lang.specs.Draft.{AgreesWith, StandsFor}
 use Rattle.ecf_lang.specs.Running.{State}
-use Rattle.ecf_lang.specs.Meaning.{Frame, Doing, block_of, value_of, turns, run, recorded}
-use Rattle.ecf_laws.specs.Parts.{NeverRaisesFuel, NoPartRaisesFuel, frame_in}
+use Rattle.ecf_lang.specs.Meaning.{Frame, Doing, value_of, turns, run, recorded}
+use Rattle.ecf_laws.specs.Parts.{NeverRaisesFuel, NoPartRaisesFuel, frame_in, loop_of}
 use Rattle.ecf_laws.specs.Replay.{AreSeen, after_steps}
 
 -- the fuel charged in these invocations
@@ -58,11 +58,11 @@ MoreTurnsChangeNothing = (store : Store) (frame : Frame) (cond : TypedExpr) (bod
     (m n : ℕ) (locals : List ℕ) (state : State) → state.fuel < m → state.fuel < n →
     turns store frame m cond body locals state ≡ turns store frame n cond body locals state
 
--- so it is of every loop in a frame of a run
+-- all numbers of turns above the fuel mean the same loop in each frame of a run
 abbrev pub RunsEndLoopsByFuel : Type 0
-RunsEndLoopsByFuel = (typed : Typed) (store : Store) (room here inv : ℕ) (cond : TypedExpr) (body : TypedBlock) (m n : ℕ) (locals : List ℕ) (state : State) → state.fuel < m → state.fuel < n →
-    turns store (frame_in typed store room here inv) m cond (block_of store (frame_in typed store room here inv) body) locals state ≡
-    turns store (frame_in typed store room here inv) n cond (block_of store (frame_in typed store room here inv) body) locals state
+RunsEndLoopsByFuel = (typed : Typed) (store : Store) (room here inv : ℕ) (cond : TypedExpr) (body : TypedBlock) →
+    (m n : ℕ) (locals : List ℕ) (state : State) → state.fuel < m → state.fuel < n →
+    loop_of store (frame_in typed store room here inv) m cond body locals state ≡ loop_of store (frame_in typed store room here inv) n cond body locals state
 
 -- what a run read is what the store held before it
 abbrev pub ReadsAreStored : Type 0

@@ -8,7 +8,7 @@ use Rattle.ecf_lang.specs.declared.typed.TypedBlock.{TypedBlock}
 use Rattle.ecf_lang.specs.declared.tx.TxCall.{TxCall}
 use Rattle.ecf_lang.specs.Store.{Store}
 use Rattle.ecf_lang.specs.Running.{State, Reached, Gives, Halts, Running}
-use Rattle.ecf_lang.specs.Meaning.{Frame, frame_of, ways, value_of, answer_of, stmt_of, block_of, calls_of}
+use Rattle.ecf_lang.specs.Meaning.{Frame, Doing, turns, frame_of, ways, value_of, answer_of, stmt_of, block_of, calls_of}
 
 -- what the run has where a part led
 abbrev pub led : {A : Type 0} → Reached A → State
@@ -22,6 +22,10 @@ NeverRaisesFuel part = (state : State) → (led (part state)).fuel ≤ state.fue
 -- the frame of an object and an invocation, where so many more frames may be open
 abbrev pub frame_in : Typed → Store → ℕ → ℕ → ℕ → Frame
 frame_in typed store room here inv = frame_of typed store (ways typed store room) here inv
+
+-- a loop of at most so many turns, in a frame
+abbrev pub loop_of : Store → Frame → ℕ → TypedExpr → TypedBlock → Doing
+loop_of store frame n cond body = turns store frame n cond (block_of store frame body)
 
 -- no part of any run of the contract raises the fuel
 pub record NoPartRaisesFuel (typed : Typed) (store : Store) : Type 0 where
