@@ -1,0 +1,99 @@
+-- The steps of a run, gone through again: what they read, and what they wrote.
+use Rattle.std.proofs.Common.{◌≡◌, ℕ, ◌-◌, Bool, true, false, List, [], ◌∷◌, ◌++◌, Option, refl, ap, sym, ◌∙◌}
+use Rattle.std.specs.Prelude.{if◌then◌else◌, nat_le, unwrap_or}
+use Rattle.ecf_lang.specs.declared.cell.Cell.{Cell}
+use Rattle.ecf_lang.specs.declared.run.Step.{Step}
+use Rattle.ecf_lang.specs.declared.run.Invocation.{Invocation}
+use Rattle.ecf_lang.specs.declared.run.Outcome.TheVariants.{Answer}
+use Rattle.ecf_lang.specs.declared.tx.Tx.{Tx}
+use Rattle.ecf_lang.specs.declared.typed.Typed.{Typed}
+use Rattle.ecf_lang.specs.Store.{Store, Cells, found, read, set}
+use Rattle.ecf_lang.specs.Running.{State, Reached, Gives, Halts, Reverts, RunsOut, Running, after, pay, read_cell, write_cell, tried}
+use Rattle.ecf_lang.specs.Meaning.{run, ran, calls_of, fresh}
+use Rattle.ecf_laws.specs.Parts.{led}
+use Rattle.ecf_laws.specs.Replay.{after_step, after_steps, IsSeen, AreSeen}
+use Rattle.ecf_laws.specs.Laws.{ReadsSeeWrites, WritesAreOfSteps}
+use Rattle.ecf_laws.proofs.Parts as parts
+
+after_push : (written : Cells) (steps : List Step) (step : Step) → after_steps written (steps ++ step ∷ []) ≡ after_step (after_steps written steps) step
+after_push written [] step = refl
+after_push written (first ∷ steps) step = after_push (after_step written first) steps step
+
+seen_push : (store : Store) (written : Cells) (steps : List Step) (step : Step) → AreSeen store written steps → IsSeen store (after_steps written steps) step → AreSeen store written (steps ++ step ∷ [])
+seen_push store written [] step h last = (last, tt)
+seen_push store written (first ∷ steps) step h last = (h.0, seen_push store (after_step written first) steps step h.1 last)
+
+module _ (store : Store) where
+  -- the written cells are those of the steps, and each read among these saw the writes before it
+  pub record Replayed (s : State) : Type 0 where
+    pub written : s.written ≡ after_steps [] s.steps
+    pub seen : AreSeen store [] s.steps
+
+  abbrev pub Replays : (T : Type 0) → Option ℕ → Running T → Running T → Type 0
+  Replays T o m n = (s : State) → Replayed s → Replayed (led (m s))
+
+  after_replayed : {S T : Type 0} (r : Reached S) (f : S → Running T) → Replayed (led r) → ((x : S) (s : State) → Replayed s → Replayed (led (f x s))) → Replayed (led (after r f))
+  after_replayed (Gives x s) f h k = k x s h
+  after_replayed (Halts halt s) f h k = h
+
+  paid_replayed : (n : ℕ) (s : State) (invocations : List Invocation) (b : Bool) → Replayed s → Replayed (led {A = Unit {0}} (if b then Gives tt (record s { fuel = s.fuel - n; invocations = invocations }) else Halts RunsOut (record s { fuel = 0 })))
+  paid_replayed n s invocations true h = record { written = h.written; seen = h.seen }
+  paid_replayed n s invocations false h = record { written = h.written; seen = h.seen }
+
+  read_replayed : (inv : ℕ) (cell : Cell) (s : State) → Replayed s → Replayed (led (read_cell store inv cell s))
+  unfolding read_cell
+  read_replayed inv cell s h = record {
+    written = h.written ∙ sym (after_push [] s.steps _);
+    seen = seen_push store [] s.steps _ h.seen (λ _. ap (λ l. unwrap_or (found l cell) (read store cell)) h.written);
+  }
+
+  write_replayed : (inv : ℕ) (cell : Cell) (value : ℕ) (s : State) → Replayed s → Replayed (led (write_cell inv cell value s))
+  unfolding write_cell
+  write_replayed inv cell value s h = record {
+    written = ap (λ l. set l cell value) h.written ∙ sym (after_push [] s.steps _);
+    seen = seen_push store [] s.steps _ h.seen (λ not_read. absurd (cc));
+  }
+
+  caught_replayed : (s : State) (r : Reached ℕ) → Replayed s → Replayed (led r) → Replayed (led (tried (λ _. r) s))
+  unfolding tried
+  caught_replayed s (Gives x t) before h = h
+  caught_replayed s (Halts (Reverts cause) t) before h = record { written = before.written; seen = before.seen }
+  caught_replayed s (Halts RunsOut t) before h = h
+
+  closed : parts.Closed store store Replays
+  unfolding pay tried
+  closed = record {
+    pures = λ x s h. h;
+    reverts = λ cause s h. h;
+    ends = λ s h. record { written = h.written; seen = h.seen };
+    binds = λ {m = m} {f = f} h k s before. after_replayed (m s) f (h s before) k;
+    looks = λ h s. h s s;
+    pays = λ inv n s h. paid_replayed n s _ (nat_le n s.fuel) h;
+    reads = read_replayed;
+    writes = write_replayed;
+    hears = λ inv value s h. record { written = h.written; seen = h.seen };
+    answers = λ inv value s h. record { written = h.written; seen = h.seen };
+    begins = λ object method args h s before. h _ _ (record { written = before.written; seen = before.seen });
+    tries = λ inv {m = m} h s before. caught_replayed s (m s) before (h s before);
+    widens = λ h. h;
+  }
+
+  pub replayed : (typed : Typed) (tx : Tx) → Replayed (led (calls_of typed store tx.calls (fresh tx.fuel)))
+  replayed typed tx = parts.calls_alike store store Replays closed typed tx.calls (fresh tx.fuel) (record { written = refl; seen = tt })
+
+  seen_of : (limit : ℕ) (r : Reached ℕ) → Replayed (led r) → AreSeen store [] (ran store limit r).steps
+  seen_of limit (Gives x t) h = h.seen
+  seen_of limit (Halts halt t) h = h.seen
+
+  written_of : (limit : ℕ) (r : Reached ℕ) (value : ℕ) → Replayed (led r) → (ran store limit r).outcome ≡ Answer value → (ran store limit r).writes ≡ after_steps [] (ran store limit r).steps
+  written_of limit (Gives x t) value h is = h.written
+  written_of limit (Halts (Reverts cause) t) value h is = absurd (cc)
+  written_of limit (Halts RunsOut t) value h is = absurd (cc)
+
+pub reads_see_writes : ReadsSeeWrites
+unfolding run
+reads_see_writes typed store tx = seen_of store tx.fuel (calls_of typed store tx.calls (fresh tx.fuel)) (replayed store typed tx)
+
+pub writes_are_of_steps : WritesAreOfSteps
+unfolding run
+writes_are_of_steps typed store tx value is = written_of store tx.fuel (calls_of typed store tx.calls (fresh tx.fuel)) value (replayed store typed tx) is

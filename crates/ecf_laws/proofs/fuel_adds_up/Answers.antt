@@ -1,0 +1,5 @@
+use Rattle.ecf_laws.proofs.Charged as proved
+use Rattle.ecf_laws.proofs.fuel_adds_up.Goals as goal
+
+pub returns : goal.returns
+returns c = proved.fuel_adds_up

@@ -1,0 +1,5 @@
+use Rattle.ecf_laws.proofs.FuelFalls as proved
+use Rattle.ecf_laws.proofs.fuel_never_rises.Goals as goal
+
+pub returns : goal.returns
+returns c = proved.fuel_never_rises

@@ -1,0 +1,5 @@
+use Rattle.ecf_laws.proofs.Ends as proved
+use Rattle.ecf_laws.proofs.fuel_within_limit.Goals as goal
+
+pub returns : goal.returns
+returns c = proved.fuel_within_limit

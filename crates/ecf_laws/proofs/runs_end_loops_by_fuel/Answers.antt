@@ -1,0 +1,5 @@
+use Rattle.ecf_laws.proofs.FuelFalls as proved
+use Rattle.ecf_laws.proofs.runs_end_loops_by_fuel.Goals as goal
+
+pub returns : goal.returns
+returns c = proved.runs_end_loops_by_fuel

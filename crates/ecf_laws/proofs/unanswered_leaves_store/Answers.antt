@@ -1,0 +1,5 @@
+use Rattle.ecf_laws.proofs.Ends as proved
+use Rattle.ecf_laws.proofs.unanswered_leaves_store.Goals as goal
+
+pub returns : goal.returns
+returns c = proved.unanswered_leaves_store

@@ -1,0 +1,5 @@
+use Rattle.ecf_laws.proofs.Stands as proved
+use Rattle.ecf_laws.proofs.writes_rise.Goals as goal
+
+pub returns : goal.returns
+returns c = proved.writes_rise
