@@ -1,0 +1,4 @@
+//! Running a transaction: a machine of small tasks, equal to what the contract means.
+#![tactic(auto)]
+
+pub mod built;
