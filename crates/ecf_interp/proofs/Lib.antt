@@ -1,1 +1,3 @@
 pub mod BuiltForms
+pub mod CellOrder
+pub mod StateSteps

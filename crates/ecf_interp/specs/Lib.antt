@@ -1,1 +1,4 @@
 pub mod Built
+pub mod Charges
+pub mod Reach
+pub mod ReadCells

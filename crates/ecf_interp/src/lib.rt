@@ -2,3 +2,5 @@
 #![tactic(auto)]
 
 pub mod built;
+mod reads;
+mod state;
