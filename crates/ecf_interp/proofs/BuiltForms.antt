@@ -1,9 +1,11 @@
 -- Which forms are built: one equation a form.
-use Rattle.std.proofs.Common.{◌≡◌, ℕ, Bool, true, false, ◌&&◌, ◌<◌, ◌≤◌, List, length, take, get_or, map, refl, ap, sym, ◌∙◌}
+use Rattle.std.proofs.Common.{◌≡◌, ℕ, Bool, true, false, ◌&&◌, ◌<◌, ◌≤◌, List, ◌∷◌, length, take, get_or, map, refl, ap, sym, ◌∙◌}
 use Rattle.std.specs.List.{list_all}
 use Rattle.std.proofs.lemmas.List.{take_all}
 use Rattle.std.proofs.lemmas.List.Folds.{list_all-map, list_all_at}
+use Rattle.std.proofs.lemmas.Bool.{false≢true}
 use Rattle.ecf_lang.specs.declared.tree.Op.{Op}
+use Rattle.ecf_lang.specs.declared.tree.Op.TheVariants as op
 use Rattle.ecf_lang.specs.declared.typed.Place.{Place}
 use Rattle.ecf_lang.specs.declared.typed.Assignee.{Assignee}
 use Rattle.ecf_lang.specs.declared.typed.Assignee.TheVariants as assignee
@@ -76,3 +78,23 @@ built_whole e first rest i is built past =
     and_true : (b : Bool) → (b && true) ≡ b
     and_true true = refl
     and_true false = refl
+
+-- the first of built parts is added
+pub built_add : (part : Op × TypedExpr) (others : List (Op × TypedExpr)) → list_all is_built_part (part ∷ others) ≡ true → part.0 ≡ op.Add
+built_add part others built = by_op part.0 refl
+  where
+    by_op : (o : Op) → part.0 ≡ o → part.0 ≡ op.Add
+    by_op op.Add is = is
+    by_op _ is = absurd (false≢true (ap (λ o. is_add o && is_built_expr part.1 && list_all is_built_part others) (sym is) ∙ built))
+
+-- the parts of a built sum
+pub built_parts : (e first : TypedExpr) (rest : List (Op × TypedExpr)) → e ≡ expr.Sum first rest → is_built_expr e ≡ true → (is_built_expr first ≡ true) × (list_all is_built_part rest ≡ true)
+built_parts e first rest is built = both (is_built_expr first) (list_all is_built_part rest) (sym (built_sum first rest) ∙ ap is_built_expr (sym is) ∙ built)
+  where
+    both : (a b : Bool) → (a && b) ≡ true → (a ≡ true) × (b ≡ true)
+    both true b h = (refl, h)
+    both false b h = absurd (false≢true h)
+
+-- what is no number, name or sum is no part of a built contract
+pub no_further_expr : (e : TypedExpr) → is_built_expr e ≡ true → ((v : ℕ) → e ≡ expr.Number v → ⊥) → ((place : Place) → e ≡ expr.Name place → ⊥) → ((first : TypedExpr) (rest : List (Op × TypedExpr)) → e ≡ expr.Sum first rest → ⊥) → ⊥
+no_further_expr e built not_number not_name not_sum = false≢true (unbuilt_expr e not_number not_name not_sum ∙ built)

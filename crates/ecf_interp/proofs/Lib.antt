@@ -1,3 +1,6 @@
 pub mod BuiltForms
 pub mod CellOrder
 pub mod StateSteps
+pub mod Steps
+pub mod Sizes
+pub mod Holds

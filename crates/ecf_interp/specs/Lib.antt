@@ -1,4 +1,7 @@
 pub mod Built
+pub mod BuiltTasks
 pub mod Charges
+pub mod Load
 pub mod Reach
 pub mod ReadCells
+pub mod Resume

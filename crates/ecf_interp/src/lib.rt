@@ -2,5 +2,7 @@
 #![tactic(auto)]
 
 pub mod built;
+mod machine;
 mod reads;
+mod stack;
 mod state;
