@@ -10,3 +10,7 @@ push_built tasks tasks' top is one others = rw is at
     at : (k : ℕ) (d : Task) → k < length (top ∷ tasks) → IsBuiltTask (get_or (top ∷ tasks) k d)
     at zero d within = one
     at (suc k) d within = others k d (omega arith)
+
+-- one task fewer
+pub pop_built : (tasks tasks' : List Task) (top : Task) → tasks ≡ top ∷ tasks' → All IsBuiltTask tasks → All IsBuiltTask tasks'
+pop_built tasks tasks' top is all = λ k d within. (rw is at all) (suc k) d (omega arith)

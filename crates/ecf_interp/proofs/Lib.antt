@@ -1,4 +1,5 @@
 pub mod BuiltForms
+pub mod CallSteps
 pub mod CellOrder
 pub mod StateSteps
 pub mod Steps

@@ -2,7 +2,7 @@
 use Rattle.std.specs.Prelude.{ℕ, Bool, true, false}
 use Rattle.ecf_lang.specs.declared.run.Outcome.{Outcome}
 use Rattle.ecf_lang.specs.declared.run.Outcome.TheVariants.{Answer, Reverted, OutOfFuel}
-use Rattle.ecf_lang.specs.Running.{State, Reverts, RunsOut, Reached, Gives, Halts}
+use Rattle.ecf_lang.specs.Running.{State, Reverts, RunsOut, Reached, Gives, Halts, Running, ◌>>◌, pure, note, answering}
 
 -- a charge that was paid, or wasn't
 abbrev pub paid : Bool → State → Reached Unit
@@ -14,3 +14,7 @@ abbrev pub reached : Outcome → State → Reached ℕ
 reached (Answer value) state = Gives value state
 reached (Reverted cause) state = Halts (Reverts cause) state
 reached OutOfFuel state = Halts RunsOut state
+
+-- a method's answer, which its invocation notes
+abbrev pub closing : ℕ → ℕ → Running ℕ
+closing inv value = note (answering value) inv >> pure value

@@ -2,9 +2,9 @@
 
 ghost use Rattle.std.specs.Prelude.{◌≡◌, ◌+◌, ◌^◌, ◌<◌, length, List, ℕ, All, IfOk, OnOk};
 ghost use Rattle.ecf_lang.specs.Store.{Store};
-ghost use Rattle.ecf_lang.specs.Running.{Gives, pay, read_cell, write_cell, note, begin, answering, charged, changed};
+ghost use Rattle.ecf_lang.specs.Running.{Gives, after, pay, read_cell, write_cell, note, begin, answering, charged, changed};
 ghost use Rattle.ecf_lang.specs.Meaning.{fresh, ran, recorded};
-ghost use Rattle.ecf_interp.specs.Reach.{paid, reached};
+ghost use Rattle.ecf_interp.specs.Reach.{paid, reached, closing};
 
 use crate::reads::Reads;
 use ecf_lang::cell::{Cell, CellRead};
@@ -131,8 +131,16 @@ impl RunState {
         Ok(inv)
     }
 
-    /// Notes an invocation's answer.
-    pub(crate) fn answer(&mut self, inv: u16, value: u128)
+    /// Notes how an invocation's method ended, if by an answer.
+    pub(crate) fn close(&mut self, inv: u16, outcome: Outcome)
+        ensures { after (reached outcome self.old) (closing inv) ≡ reached outcome self.new }
+    {
+        if let Outcome::Answer(value) = outcome {
+            self.answer(inv, value);
+        }
+    }
+
+    fn answer(&mut self, inv: u16, value: u128)
         ensures { note (answering value) inv self.old ≡ Gives tt self.new }
     {
         if let Some(invocation) = self.invocations.get_mut(usize::from(inv)) {
