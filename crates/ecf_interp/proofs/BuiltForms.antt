@@ -1,5 +1,5 @@
 -- Which forms are built: one equation a form.
-use Rattle.std.proofs.Common.{◌≡◌, ℕ, Bool, true, false, ◌&&◌, ◌<◌, ◌≤◌, List, ◌∷◌, length, take, get_or, map, refl, ap, sym, ◌∙◌}
+use Rattle.std.proofs.Common.{◌≡◌, ℕ, Bool, true, false, ◌&&◌, ◌<◌, ◌≤◌, List, ◌∷◌, length, take, get_or, refl, ap, sym, ◌∙◌}
 use Rattle.std.specs.List.{list_all}
 use Rattle.std.proofs.lemmas.List.{take_all}
 use Rattle.std.proofs.lemmas.List.Folds.{list_all-map, list_all_at}
@@ -8,7 +8,6 @@ use Rattle.ecf_lang.specs.declared.tree.Op.{Op}
 use Rattle.ecf_lang.specs.declared.tree.Op.TheVariants as op
 use Rattle.ecf_lang.specs.declared.typed.Place.{Place}
 use Rattle.ecf_lang.specs.declared.typed.Assignee.{Assignee}
-use Rattle.ecf_lang.specs.declared.typed.Assignee.TheVariants as assignee
 use Rattle.ecf_lang.specs.declared.typed.TypedExpr.{TypedExpr, TypedExpr-F, roll-TypedExpr, out-TypedExpr, roll-out-TypedExpr, fold-roll-TypedExpr, map-TypedExpr}
 use Rattle.ecf_lang.specs.declared.typed.TypedExpr.TheVariants as expr
 use Rattle.ecf_lang.specs.declared.typed.TypedCall.{TypedCall, fold-TypedCall}

@@ -1,5 +1,5 @@
 -- What a call of a transaction comes to.
-use Rattle.std.proofs.Common.{◌≡◌, ℕ, suc, ◌+◌, ◌<◌, ◌≤◌, Bool, true, false, cond, List, [], ◌∷◌, length, get_or, drop, Option, Some, None, Result, Ok, Err, All, refl, ap, sym, subst, ◌∙◌, ◌⊎◌, inl, inr, add-one, drop-cons, arith}
+use Rattle.std.proofs.Common.{◌≡◌, ℕ, suc, ◌+◌, ◌<◌, ◌≤◌, Bool, true, false, cond, List, [], ◌∷◌, length, get_or, drop, Some, None, Result, Ok, Err, All, refl, ap, sym, subst, ◌∙◌, ◌⊎◌, inl, inr, add-one, drop-cons, arith}
 use Rattle.std.specs.Prelude.{◌==◌, nat_lt, find, slice_get, option_and_then, IfOk}
 use Rattle.std.proofs.lemmas.Bool.Decides.{nat_tests}
 use Rattle.std.proofs.lemmas.List.{drop_all}
@@ -18,7 +18,7 @@ use Rattle.ecf_lang.specs.declared.run.Run.{Run}
 use Rattle.ecf_lang.specs.Store.{Store}
 use Rattle.ecf_lang.specs.Fits.{method_of, method_at}
 use Rattle.ecf_lang.specs.Running.{State, Halts, Gives, Reverts, Reached, Running, after, ◌>>=◌, ◌>>◌, pure, begin, note, answering}
-use Rattle.ecf_lang.specs.Meaning.{Frame, Opens, Flow, On, Back, answered, body_of, locals_of, block_of, frame_of, opens_of, Ways, ways, deeper, invoke, tested, calls_of, fresh, ran, recorded, run}
+use Rattle.ecf_lang.specs.Meaning.{Frame, Opens, Flow, On, Back, answered, body_of, locals_of, frame_of, ways, tested, calls_of, fresh, ran, recorded, run}
 use Rattle.ecf_lang.proofs.Forms.{block_is, anew_is}
 use Rattle.ecf_interp.specs.declared.machine.Task.{Task}
 use Rattle.ecf_interp.specs.Built.{IsBuilt, IsBuiltObject, IsBuiltBlock}
@@ -64,27 +64,27 @@ module _ (typed : Typed) (store : Store) (to name : ℕ) (args : List ℕ) where
   answers frame (Halts halt s) = refl
 
   pub call_opened : (method : TypedMethod) (stmts : List TypedStmt) (tasks : List Task) (inv : ℕ) (s s1 s2 s3 : State) (outcome : Outcome) →
-    length s.invocations < 1024 →
-    method_at typed to name ≡ Some method →
-    stmts ≡ (out-TypedBlock method.body).stmts →
-    tasks ≡ [] →
-    begin to name args s ≡ Gives inv s1 →
-    ((opens : Opens) (locals : List ℕ) → after (stmts_of store (record { here = to; inv = inv; opens = opens }) stmts locals s1) (settled (plug store (record { here = to; inv = inv; opens = opens }) tasks)) ≡ reached outcome s2) →
-    after (reached outcome s2) (closing inv) ≡ reached outcome s3 →
-    (ways typed store 64).anew to name args s ≡ reached outcome s3
+      length s.invocations < 1024 →
+      method_at typed to name ≡ Some method →
+      stmts ≡ (out-TypedBlock method.body).stmts →
+      tasks ≡ [] →
+      begin to name args s ≡ Gives inv s1 →
+      ((opens : Opens) (locals : List ℕ) → after (stmts_of store (record { here = to; inv = inv; opens = opens }) stmts locals s1) (settled (plug store (record { here = to; inv = inv; opens = opens }) tasks)) ≡ reached outcome s2) →
+      after (reached outcome s2) (closing inv) ≡ reached outcome s3 →
+      (ways typed store 64).anew to name args s ≡ reached outcome s3
   call_opened method stmts tasks inv s s1 s2 s3 outcome room some stmts_are none begun finished closed =
       let e : nat_lt (length s.invocations) 1024 ≡ true = grind (arith, nat_tests) in
       let frame : Frame = frame_of typed store (ways typed store 63) to inv in
       let locals = locals_of method args in
       let body : body_of store frame (Some method) args s1 ≡ reached outcome s2 =
-          ap (λ r. after r (λ flow. pure (answered flow))) (block_is store frame method.body locals s1) ∙
-          answers frame (stmts_of store frame (out-TypedBlock method.body).stmts locals s1) ∙
-          ap (λ ts. after (stmts_of store frame ts locals s1) (settled (plug store frame []))) (sym stmts_are) ∙
-          ap (λ ts. after (stmts_of store frame stmts locals s1) (settled (plug store frame ts))) (sym none) ∙
-          finished frame.opens locals in
+      ap (λ r. after r (λ flow. pure (answered flow))) (block_is store frame method.body locals s1) ∙
+      answers frame (stmts_of store frame (out-TypedBlock method.body).stmts locals s1) ∙
+      ap (λ ts. after (stmts_of store frame ts locals s1) (settled (plug store frame []))) (sym stmts_are) ∙
+      ap (λ ts. after (stmts_of store frame stmts locals s1) (settled (plug store frame ts))) (sym none) ∙
+      finished frame.opens locals in
       anew_tested s ∙ rw (e, some) (
-        ap (λ r. after r (λ n. body_of store (frame_of typed store (ways typed store 63) to n) (Some method) args >>= (λ v. note (answering v) n >> pure v))) begun ∙
-        ap (λ r. after r (λ v. note (answering v) inv >> pure v)) body ∙ closed)
+      ap (λ r. after r (λ n. body_of store (frame_of typed store (ways typed store 63) to n) (Some method) args >>= (λ v. note (answering v) n >> pure v))) begun ∙
+      ap (λ r. after r (λ v. note (answering v) inv >> pure v)) body ∙ closed)
 
 -- the calls that are left, where the last one before them gave this answer
 abbrev pub calls_left : Typed → Store → ℕ → List TxCall → Running ℕ

@@ -1,9 +1,9 @@
 -- The order of cells, and what pairs at their end mean for the cells found.
-use Rattle.std.proofs.Common.{◌≡◌, ℕ, Bool, true, false, cond, is_some, Option, Some, None, List, [], ◌∷◌, ◌++◌, ap, sym, ◌∙◌, refl}
+use Rattle.std.proofs.Common.{◌≡◌, ℕ, Bool, true, false, cond, is_some, Option, Some, None, [], ◌∷◌, ◌++◌, ap, sym, ◌∙◌, refl}
 use Rattle.std.specs.Ordering.{is_eq}
 use Rattle.std.specs.Cmp.{IsTotalOrder}
 use Rattle.std.specs.BTreeMap.{is_at}
-use Rattle.std.specs.BTreeSet.{BTreeSet, contains, Updates}
+use Rattle.std.specs.BTreeSet.{BTreeSet, Updates}
 use Rattle.std.proofs.lemmas.Cmp.{nat_cmp_total, on_total, then_total, eq_by_cmp_equiv}
 use Rattle.ecf_lang.specs.declared.cell.Cell.{Cell}
 use Rattle.ecf_lang.specs.Store.{Cells, cell_cmp, found}

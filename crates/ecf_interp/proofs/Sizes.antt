@@ -8,7 +8,7 @@ use Rattle.ecf_lang.specs.declared.typed.Assignee.{Assignee}
 use Rattle.ecf_lang.specs.declared.typed.TypedExpr.{TypedExpr, TypedExpr-F, roll-TypedExpr, fold-roll-TypedExpr, map-TypedExpr}
 use Rattle.ecf_lang.specs.declared.typed.TypedExpr.TheVariants as expr
 use Rattle.ecf_lang.specs.declared.typed.TypedCall.{TypedCall, fold-TypedCall}
-use Rattle.ecf_lang.specs.declared.typed.TypedStmt.{TypedStmt, out-TypedStmt, out-roll-TypedStmt}
+use Rattle.ecf_lang.specs.declared.typed.TypedStmt.{out-TypedStmt, out-roll-TypedStmt}
 use Rattle.ecf_lang.specs.declared.typed.TypedStmt.TheVariants as stmt
 use Rattle.ecf_interp.specs.Load.{sized, size_of, size_step, parts_size, stmt_size, load}
 use Rattle.ecf_interp.specs.declared.machine.Task.{Task}

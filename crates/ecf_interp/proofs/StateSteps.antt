@@ -1,14 +1,13 @@
 -- What charges, reads and writes do to a state.
-use Rattle.std.proofs.Common.{◌≡◌, ℕ, ◌+◌, ◌-◌, ◌^◌, ◌<◌, ◌≤◌, true, false, ◌||◌, is_some, List, [], ◌∷◌, ◌++◌, length, get_or, Some, None, ◌⊎◌, inl, inr, refl, arith}
-use Rattle.std.specs.Prelude.{nat_le, slice_get, slice_set}
+use Rattle.std.proofs.Common.{◌≡◌, ℕ, ◌+◌, ◌-◌, ◌^◌, ◌<◌, ◌≤◌, true, false, is_some, List, [], ◌∷◌, ◌++◌, length, get_or, Some, None, ◌⊎◌, inl, inr, refl, arith}
+use Rattle.std.specs.Prelude.{nat_le, slice_get}
 use Rattle.std.proofs.lemmas.Bool.Decides.{nat_tests}
 use Rattle.std.proofs.lemmas.List.Elements.{All-set}
 use Rattle.std.proofs.lemmas.Option.{slice_get_cases}
 use Rattle.ecf_lang.specs.declared.cell.Cell.{Cell}
-use Rattle.ecf_lang.specs.declared.run.Step.{Step}
 use Rattle.ecf_lang.specs.declared.run.Invocation.{Invocation}
-use Rattle.ecf_lang.specs.Store.{Store, Cells, found, read, set}
-use Rattle.ecf_lang.specs.Running.{State, Halts, Gives, RunsOut, pay, read_cell, write_cell, changed, charged, noted, present}
+use Rattle.ecf_lang.specs.Store.{Store, found, read, set}
+use Rattle.ecf_lang.specs.Running.{State, Halts, Gives, RunsOut, pay, read_cell, write_cell, changed, charged}
 use Rattle.ecf_interp.specs.Charges.{Bounded}
 
 -- a charge that exceeds what is left

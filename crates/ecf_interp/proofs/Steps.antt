@@ -15,8 +15,8 @@ use Rattle.ecf_lang.specs.declared.typed.TypedExpr.TheVariants as expr
 use Rattle.ecf_lang.specs.declared.typed.TypedStmt.{TypedStmt}
 use Rattle.ecf_lang.specs.declared.typed.TypedStmt.TheVariants as stmt
 use Rattle.ecf_lang.specs.Store.{Store}
-use Rattle.ecf_lang.specs.Running.{State, Halts, Gives, Reverts, RunsOut, Reached, Running, after, ◌>>=◌, ◌>>◌, pure, revert, pay, read_cell, write_cell}
-use Rattle.ecf_lang.specs.Meaning.{Opens, Frame, Flow, On, Back, value_of, stmt_of, charge, fetch, chain, own, in_turn, on, assign}
+use Rattle.ecf_lang.specs.Running.{State, Halts, Gives, Reverts, RunsOut, Reached, Running, after, ◌>>=◌, pure, revert, pay, read_cell, write_cell}
+use Rattle.ecf_lang.specs.Meaning.{Opens, Frame, Flow, On, Back, value_of, chain, own, on, assign}
 use Rattle.ecf_lang.proofs.Forms.{value_number, value_name, value_sum, stmt_set, stmt_return, stmt_revert}
 use Rattle.ecf_interp.specs.Built.{is_built_part}
 use Rattle.ecf_interp.proofs.BuiltForms.{built_add}
@@ -69,10 +69,10 @@ module _ (store : Store) (frame : Frame) (locals : List ℕ) where
       let is : rest ≡ part ∷ drop 1 rest = begins_so rest part some first in
       let add : part.0 ≡ op.Add = built_add part (drop 1 rest) (ap (list_all is_built_part) (sym is) ∙ built) in
       let parts_are : parts_of store frame locals rest ≡ (op.Add, value part.1) ∷ parts_of store frame locals (drop 1 rest) =
-          ap (parts_of store frame locals) is ∙ ap (λ o. (o, value part.1) ∷ parts_of store frame locals (drop 1 rest)) add in
+      ap (parts_of store frame locals) is ∙ ap (λ o. (o, value part.1) ∷ parts_of store frame locals (drop 1 rest)) add in
       rw (tasks_is, others_is) (
-        ap (λ ps. after (chain store frame total ps s) (plug store frame tasks locals)) parts_are ∙
-        after_after (value part.1 s) (λ y. added store frame total y locals (drop 1 rest)) (plug store frame tasks locals))
+      ap (λ ps. after (chain store frame total ps s) (plug store frame tasks locals)) parts_are ∙
+      after_after (value part.1 s) (λ y. added store frame total y locals (drop 1 rest)) (plug store frame tasks locals))
 
   pub add_short : (total v : ℕ) (rest : List (Op × TypedExpr)) (next : ℕ → Running ℕ) (s s1 : State) → pay frame.inv 1 s ≡ Halts RunsOut s1 → after (added store frame total v locals rest s) next ≡ Halts RunsOut s1
   add_short total v rest next s s1 short = rw short refl

@@ -8,7 +8,6 @@ use Rattle.ecf_lang.specs.declared.typed.Place.TheVariants as place
 use Rattle.ecf_lang.specs.declared.typed.Assignee.{Assignee}
 use Rattle.ecf_lang.specs.declared.typed.Assignee.TheVariants as assignee
 use Rattle.ecf_lang.specs.declared.typed.Typed.{Typed}
-use Rattle.ecf_lang.specs.declared.typed.TypedMethod.{TypedMethod}
 use Rattle.ecf_lang.specs.declared.typed.TypedObject.{TypedObject}
 use Rattle.ecf_lang.specs.declared.typed.TypedExpr.{TypedExpr, TypedExpr-F, fold-TypedExpr}
 use Rattle.ecf_lang.specs.declared.typed.TypedCall.{TypedCall-F}

@@ -1,11 +1,11 @@
 -- The machine holds nothing but forms that run.
-use Rattle.std.specs.Prelude.{◌≡◌, true, List, All}
+use Rattle.std.specs.Prelude.{◌≡◌, true, All}
 use Rattle.std.specs.List.{list_all}
 use Rattle.ecf_interp.specs.Built.{is_built_expr, is_built_part, IsBuiltStmt}
 use Rattle.ecf_interp.specs.declared.machine.Task.{Task}
 use Rattle.ecf_interp.specs.declared.machine.Task.TheVariants as task
 use Rattle.ecf_interp.specs.declared.machine.Doing.{Doing}
-use Rattle.ecf_interp.specs.declared.machine.Doing.TheVariants.{Body, Eval, Give, Over}
+use Rattle.ecf_interp.specs.declared.machine.Doing.TheVariants.{Body, Eval}
 use Rattle.ecf_interp.specs.declared.machine.Machine.{Machine}
 
 -- what a task keeps for later runs

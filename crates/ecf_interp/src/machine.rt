@@ -96,11 +96,7 @@ impl<'a, R: CellRead> Machine<'a, R> {
         }
     }
 
-    fn stmt(
-        &mut self,
-        stmt: &'a TypedStmt,
-        rest: &'a [TypedStmt],
-    ) -> Result<Doing<'a>, AllocError>
+    fn stmt(&mut self, stmt: &'a TypedStmt, rest: &'a [TypedStmt]) -> Result<Doing<'a>, AllocError>
         requires stmt_built { IsBuiltStmt stmt.now }
         requires rest_built { All IsBuiltStmt rest.now }
         requires tasks_built { IsBuiltMachine self.old }
@@ -271,11 +267,7 @@ impl<'a, R: CellRead> Machine<'a, R> {
     }
 
     /// Goes on with the further parts of a sum.
-    fn further(
-        &mut self,
-        total: u128,
-        rest: &'a [(Op, TypedExpr)],
-    ) -> Result<Doing<'a>, AllocError>
+    fn further(&mut self, total: u128, rest: &'a [(Op, TypedExpr)]) -> Result<Doing<'a>, AllocError>
         requires rest_built { list_all is_built_part rest.now ≡ true }
         requires tasks_built { IsBuiltMachine self.old }
         ensures same { IfOk result (λ d. Keeps (means_further R.store self.old total rest.now) (means R.store self.new d)) }

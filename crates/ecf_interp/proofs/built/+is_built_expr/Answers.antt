@@ -1,5 +1,5 @@
-use Rattle.std.proofs.Common.{◌≡◌, false, ◌&&◌, sym, ap, ◌∙◌}
-use Rattle.ecf_interp.specs.Built.{is_add, is_built_expr, is_built_part}
+use Rattle.std.proofs.Common.{◌&&◌, sym, ap, ◌∙◌}
+use Rattle.ecf_interp.specs.Built.{is_built_expr}
 use Rattle.ecf_interp.proofs.BuiltForms.{unbuilt_expr, unbuilt_sum, built_whole}
 use Rattle.ecf_interp.proofs.built.+is_built_expr.Goals as goal
 

@@ -12,7 +12,7 @@ pub returns-in-Some-clause-same : goal.returns-in-Some-clause-same
 returns-in-Some-clause-same g c =
     let store = g.R.CellRead.store in let machine = c.args.self.now in
     keeps_under _ _ _ _ (λ opens locals.
-      add_on (store_in store machine) (frame_in store machine opens) locals _ _ c.in-Some.sum _ (plug_in store machine opens locals) _ _ c.if-not-pay.ensures c.in-Some.ensures.0 c.in-Some.ensures.1)
+    add_on (store_in store machine) (frame_in store machine opens) locals _ _ c.in-Some.sum _ (plug_in store machine opens locals) _ _ c.if-not-pay.ensures c.in-Some.ensures.0 c.in-Some.ensures.1)
     c.further.ensures.same
 
 pub returns-in-None-clause-same : goal.returns-in-None-clause-same

@@ -6,12 +6,12 @@ pub returns-in-Return-clause-same : goal.returns-in-Return-clause-same
 returns-in-Return-clause-same g c =
     let store = g.R.CellRead.store in let machine = c.args.self.now in
     keeps_under _ _ _ _ (λ opens locals.
-      return_waits (store_in store machine) (frame_in store machine opens) locals _ _ _ (plug_in store machine opens) _ c.in-Return.is)
+    return_waits (store_in store machine) (frame_in store machine opens) locals _ _ _ (plug_in store machine opens) _ c.in-Return.is)
     c.wait.ensures.same
 
 pub returns-in-Revert-clause-same : goal.returns-in-Revert-clause-same
 returns-in-Revert-clause-same g c =
     let store = g.R.CellRead.store in let machine = c.args.self.now in
     keeps_under _ _ _ _ (λ opens locals.
-      revert_waits (store_in store machine) (frame_in store machine opens) locals _ _ _ (plug_in store machine opens) _ c.in-Revert.is)
+    revert_waits (store_in store machine) (frame_in store machine opens) locals _ _ _ (plug_in store machine opens) _ c.in-Revert.is)
     c.wait-in-Revert.ensures.same

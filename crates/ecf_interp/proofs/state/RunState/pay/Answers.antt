@@ -1,4 +1,3 @@
-use Rattle.std.proofs.Common.{◌≡◌, rules}
 use Rattle.ecf_interp.proofs.StateSteps.{pay_short, pay_enough, Bounded_pay}
 use Rattle.ecf_interp.proofs.state.RunState.pay.Goals as goal
 

@@ -1,4 +1,4 @@
-use Rattle.std.proofs.Common.{◌≡◌, sym, ◌∙◌}
+use Rattle.std.proofs.Common.{sym, ◌∙◌}
 use Rattle.ecf_interp.proofs.StateSteps.{read_written, read_again, read_first}
 use Rattle.ecf_interp.proofs.state.RunState.read.Goals as goal
 use Rattle.ecf_interp.proofs.state.RunState.read.Goals.{in-Some, in-None+then-not-contains+in_ok-push-in-None, in-None+else-not-contains}

@@ -1,4 +1,3 @@
-use Rattle.std.proofs.Common.{◌≡◌, rules}
 use Rattle.ecf_interp.proofs.StateSteps.{write_is}
 use Rattle.ecf_interp.proofs.state.RunState.write.Goals as goal
 
