@@ -37,3 +37,6 @@ pub fn run<'a, R: CellRead>(
     let (outcome, state) = calls::run_calls(alloc, typed, store, tx.calls.as_slice(), state)?;
     state.into_run(alloc, tx.fuel, outcome)
 }
+
+#[cfg(test)]
+mod tests;
