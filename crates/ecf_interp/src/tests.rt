@@ -1,8 +1,5 @@
 //! Runs of small contracts, with their worked values.
 
-ghost use Rattle.std.specs.Prelude.{◌≡◌, ◌<◌, [], IfOk};
-ghost use Rattle.ecf_lang.specs.Store.{IsStore, read};
-
 use crate::built::is_built;
 use crate::run;
 use ecf_lang::cell::{Cell, CellRead};
@@ -17,6 +14,7 @@ use sqlite_items::{Boxed, Items};
 use std::alloc::{AllocError, Global};
 use std::collections::BTreeMap;
 use std::marker::Model;
+use std::process::Abort;
 use std::test::Fail;
 
 /// A store in memory.
@@ -36,21 +34,18 @@ impl Model for Stored {
     ghost invariant = { λ s. IsStore s.cells.entries };
 }
 
-impl Stored {
-    fn new(alloc: Global) -> Stored {
-        Stored {
-            cells: BTreeMap::new(alloc),
-        }
+/// A store with this number in the first field of the first object.
+fn stored_first(alloc: Global, value: u128) -> Result<Stored, AllocError> {
+    let mut cells = BTreeMap::new(alloc);
+    if value > 0 {
+        let first = Cell {
+            object: 0,
+            field: 0,
+            key: 0,
+        };
+        cells.insert(first, value)?;
     }
-
-    /// With this number in the first field of the first object.
-    fn with_first(alloc: Global, value: u128) -> Result<Stored, AllocError>
-        requires { 0 < value }
-    {
-        let mut cells = BTreeMap::new(alloc);
-        cells.insert(cell(0), value)?;
-        Ok(Stored { cells })
-    }
+    Ok(Stored { cells })
 }
 
 impl CellRead for Stored {
@@ -58,14 +53,6 @@ impl CellRead for Stored {
 
     fn get(&self, cell: Cell) -> u128 {
         self.cells.get(&cell).copied().unwrap_or(0)
-    }
-}
-
-fn cell(field: u8) -> Cell {
-    Cell {
-        object: 0,
-        field,
-        key: 0,
     }
 }
 
@@ -79,9 +66,14 @@ fn plain(field: u8) -> TypedExpr {
     }
 }
 
-fn sum(alloc: Global, first: TypedExpr, second: TypedExpr) -> Result<TypedExpr, AllocError> {
+fn sum(
+    alloc: Global,
+    first: TypedExpr,
+    op: Op,
+    second: TypedExpr,
+) -> Result<TypedExpr, AllocError> {
     let mut rest = Items::new(alloc);
-    rest.push((Op::Add, second))?;
+    rest.push((op, second))?;
     Ok(TypedExpr::Sum {
         first: Boxed::new(alloc, first)?,
         rest,
@@ -96,14 +88,12 @@ fn set(field: u8, value: TypedExpr) -> TypedStmt {
 }
 
 /// A contract of one object with one method, which takes nothing.
-fn contract(alloc: Global, body: Vec<TypedStmt>) -> Result<Typed, AllocError> {
+fn contract(alloc: Global, stmts: Items<TypedStmt>) -> Result<Typed, AllocError> {
     let mut methods = Items::new(alloc);
     methods.push(TypedMethod {
         name: 0,
         locals: 0,
-        body: TypedBlock {
-            stmts: Items::from_vec(body),
-        },
+        body: TypedBlock { stmts },
     })?;
     let mut objects = Items::new(alloc);
     objects.push(TypedObject {
@@ -167,124 +157,150 @@ fn shown(alloc: Global, run: &Run) -> Result<String, AllocError> {
     Ok(text)
 }
 
-fn counter(alloc: Global) -> Result<Vec<TypedStmt>, AllocError> {
-    let raised = sum(alloc, plain(0), number(1))?;
-    Ok(vec![in alloc; set(0, raised), TypedStmt::Return { value: plain(0) }]?)
+#[derive(Clone, Copy)]
+enum Body {
+    /// `n = n + 1; return n;`
+    Counter,
+    /// `n = 1; revert 9;`
+    Reverts,
+    /// `m = n; n = 5;`
+    TwoFields,
+    /// `return 2 - 1;`
+    Difference,
+    /// `return here;`
+    Here,
+    /// The local 0 `= 1;`
+    Local,
+}
+
+fn stmts_of(alloc: Global, kind: Body) -> Result<Items<TypedStmt>, AllocError> {
+    let mut stmts = Items::new(alloc);
+    match kind {
+        Body::Counter => {
+            stmts.push(set(0, sum(alloc, plain(0), Op::Add, number(1))?))?;
+            stmts.push(TypedStmt::Return { value: plain(0) })?;
+        }
+        Body::Reverts => {
+            stmts.push(set(0, number(1)))?;
+            stmts.push(TypedStmt::Revert { value: number(9) })?;
+        }
+        Body::TwoFields => {
+            stmts.push(set(1, plain(0)))?;
+            stmts.push(set(0, number(5)))?;
+        }
+        Body::Difference => {
+            let value = sum(alloc, number(2), Op::Sub, number(1))?;
+            stmts.push(TypedStmt::Return { value })?;
+        }
+        Body::Here => stmts.push(TypedStmt::Return {
+            value: TypedExpr::Here,
+        })?,
+        Body::Local => stmts.push(TypedStmt::Set {
+            to: Assignee::Local(0),
+            value: number(1),
+        })?,
+    }
+    Ok(stmts)
 }
 
 #[test]
 fn runs(rt: HostRuntime) -> Result<(), Fail> {
     let alloc = rt.alloc();
-    let rows = vec![in alloc;
+    let rows = [
         (
-            counter(alloc)?,
+            Body::Counter,
             0,
             100,
             1,
-            "Answer(1) 14; 0r0=0 0w0=1 0r0=1; reads 0=0; writes 0=1; own 14"
+            "Answer(1) 14; 0r0=0 0w0=1 0r0=1; reads 0=0; writes 0=1; own 14",
         ),
         (
-            counter(alloc)?,
+            Body::Counter,
             0,
             14,
             1,
-            "Answer(1) 14; 0r0=0 0w0=1 0r0=1; reads 0=0; writes 0=1; own 14"
+            "Answer(1) 14; 0r0=0 0w0=1 0r0=1; reads 0=0; writes 0=1; own 14",
         ),
         (
-            counter(alloc)?,
+            Body::Counter,
             0,
             13,
             1,
-            "OutOfFuel 13; 0r0=0 0w0=1; reads 0=0; writes; own 11"
+            "OutOfFuel 13; 0r0=0 0w0=1; reads 0=0; writes; own 11",
         ),
         (
-            counter(alloc)?,
+            Body::Counter,
             41,
             100,
             1,
-            "Answer(42) 14; 0r0=41 0w0=42 0r0=42; reads 0=41; writes 0=42; own 14"
+            "Answer(42) 14; 0r0=41 0w0=42 0r0=42; reads 0=41; writes 0=42; own 14",
         ),
         (
-            counter(alloc)?,
+            Body::Counter,
             7,
             100,
             2,
-            "Answer(9) 28; 0r0=7 0w0=8 0r0=8 1r0=8 1w0=9 1r0=9; reads 0=7; writes 0=9; own 14 14"
+            "Answer(9) 28; 0r0=7 0w0=8 0r0=8 1r0=8 1w0=9 1r0=9; reads 0=7; writes 0=9; own 14 14",
         ),
         (
-            counter(alloc)?,
+            Body::Counter,
             u128::MAX,
             100,
             1,
-            "Reverted(Overflow) 6; 0r0=340282366920938463463374607431768211455; reads 0=340282366920938463463374607431768211455; writes; own 6"
+            "Reverted(Overflow) 6; 0r0=340282366920938463463374607431768211455; reads 0=340282366920938463463374607431768211455; writes; own 6",
         ),
         (
-            vec![in alloc; set(0, number(1)), TypedStmt::Revert { value: number(9) }]?,
+            Body::Reverts,
             0,
             100,
             1,
-            "Reverted(User(9)) 8; 0w0=1; reads; writes; own 8"
+            "Reverted(User(9)) 8; 0w0=1; reads; writes; own 8",
         ),
         (
-            vec![in alloc; set(1, plain(0)), set(0, number(5))]?,
+            Body::TwoFields,
             5,
             100,
             1,
-            "Answer(0) 14; 0r0=5 0w1=5 0w0=5; reads 0=5; writes 0=5 1=5; own 14"
+            "Answer(0) 14; 0r0=5 0w1=5 0w0=5; reads 0=5; writes 0=5 1=5; own 14",
         ),
-    ]?;
-    for (body, stored, fuel, times, want) in rows {
-        let typed = contract(alloc, body)?;
-        let tx = asks(alloc, fuel, times)?;
-        let store = if stored > 0 {
-            Stored::with_first(alloc, stored)?
-        } else {
-            Stored::new(alloc)
-        };
-        assert!(rt; fits(&typed, &tx));
-        assert!(rt; is_built(&typed));
-        let run = run(alloc, &typed, &store, &tx)?;
-        assert_eq!(rt; shown(alloc, &run)?.as_str(), want);
+    ];
+    for (kind, stored, fuel, times, want) in rows {
+        let text = shown_run(&rt, alloc, kind, stored, fuel, times)?;
+        assert_eq!(rt; text.as_str(), want);
     }
     Ok(())
+}
+
+fn shown_run(
+    rt: &impl Abort,
+    alloc: Global,
+    kind: Body,
+    stored: u128,
+    fuel: u32,
+    times: usize,
+) -> Result<String, AllocError> {
+    let typed = contract(alloc, stmts_of(alloc, kind)?)?;
+    let tx = asks(alloc, fuel, times)?;
+    let store = stored_first(alloc, stored)?;
+    assert!(rt; fits(&typed, &tx));
+    assert!(rt; is_built(&typed));
+    let run = run(alloc, &typed, &store, &tx)?;
+    shown(alloc, &run)
 }
 
 #[test]
 fn tells_what_is_built(rt: HostRuntime) -> Result<(), Fail> {
     let alloc = rt.alloc();
-    let mut rest = Items::new(alloc);
-    rest.push((Op::Sub, number(1)))?;
-    let difference = TypedExpr::Sum {
-        first: Boxed::new(alloc, number(2))?,
-        rest,
-    };
-    let rows = vec![in alloc;
-        (counter(alloc)?, true),
-        (Vec::new(alloc), true),
-        (
-            vec![in alloc; TypedStmt::Return { value: difference }]?,
-            false
-        ),
-        (
-            vec![in alloc;
-                TypedStmt::Return {
-                    value: TypedExpr::Here
-                }
-            ]?,
-            false
-        ),
-        (
-            vec![in alloc;
-                TypedStmt::Set {
-                    to: Assignee::Local(0),
-                    value: number(1)
-                }
-            ]?,
-            false
-        ),
-    ]?;
-    for (body, want) in rows {
-        assert_eq!(rt; is_built(&contract(alloc, body)?), want);
+    let rows = [
+        (Body::Counter, true),
+        (Body::Reverts, true),
+        (Body::Difference, false),
+        (Body::Here, false),
+        (Body::Local, false),
+    ];
+    for (kind, want) in rows {
+        let built = is_built(&contract(alloc, stmts_of(alloc, kind)?)?);
+        assert_eq!(rt; built, want);
     }
     Ok(())
 }
