@@ -16,7 +16,7 @@ use Rattle.ecf_lang.specs.declared.typed.TypedBlock.{TypedBlock}
 use Rattle.ecf_lang.specs.declared.typed.TypedStmt.TheVariants as stmt
 use Rattle.ecf_interp.specs.Built.{is_add, is_plain, is_built_expr, is_built_part, is_field, is_built_stmt, expr_step, call_step}
 
-expr_roll : (e : TypedExpr-F TypedCall TypedExpr) → is_built_expr (roll-TypedExpr e) ≡ expr_step (map-TypedExpr _ _ _ _ (fold-TypedCall Bool Bool call_step expr_step) is_built_expr e)
+pub expr_roll : (e : TypedExpr-F TypedCall TypedExpr) → is_built_expr (roll-TypedExpr e) ≡ expr_step (map-TypedExpr _ _ _ _ (fold-TypedCall Bool Bool call_step expr_step) is_built_expr e)
 unfolding is_built_expr
 expr_roll e = fold-roll-TypedExpr Bool Bool call_step expr_step e
 

@@ -5,3 +5,4 @@ pub mod StateSteps
 pub mod Steps
 pub mod Sizes
 pub mod Holds
+pub mod OneInvocation

@@ -8,6 +8,7 @@ ghost use Rattle.ecf_interp.specs.Built.{IsBuilt};
 
 pub mod built;
 mod calls;
+pub mod laws;
 mod machine;
 mod reads;
 mod stack;
