@@ -1,5 +1,5 @@
 -- Built forms make no steps but in the invocation of their frame.
-use Rattle.std.proofs.Common.{◌≡◌, ℕ, zero, suc, ◌+◌, ◌<◌, ◌≤◌, Bool, true, false, ◌&&◌, List, [], ◌∷◌, ◌++◌, map, Option, Some, None, Result, Ok, Err, All, refl, ap, sym, ◌∙◌, subst, arith}
+use Rattle.std.proofs.Common.{◌≡◌, ℕ, zero, suc, ◌+◌, ◌<◌, Bool, true, false, ◌&&◌, List, [], ◌∷◌, map, Option, Some, None, Result, Ok, Err, All, refl, ap, sym, ◌∙◌, subst, arith}
 use Rattle.std.specs.Prelude.{nat_le, if◌then◌else◌, ◌-◌}
 use Rattle.std.specs.List.{list_all}
 use Rattle.std.proofs.lemmas.Bool.{false≢true}
@@ -22,12 +22,10 @@ use Rattle.ecf_lang.specs.declared.typed.TypedCall.{TypedCall}
 use Rattle.ecf_lang.specs.declared.typed.TypedStmt.{TypedStmt, TypedStmt-F, roll-TypedStmt, out-TypedStmt, roll-out-TypedStmt}
 use Rattle.ecf_lang.specs.declared.typed.TypedStmt.TheVariants as stmt
 use Rattle.ecf_lang.specs.declared.typed.TypedBlock.{TypedBlock, out-TypedBlock}
-use Rattle.ecf_lang.specs.declared.tx.Tx.{Tx}
-use Rattle.ecf_lang.specs.declared.tx.TxCall.{TxCall}
 use Rattle.ecf_lang.specs.Store.{Store}
 use Rattle.ecf_lang.specs.Fits.{method_at}
-use Rattle.ecf_lang.specs.Running.{State, Halt, Reached, Gives, Halts, RunsOut, Running, after, ◌>>=◌, ◌>>◌, pure, revert, pay, changed, charged, read_cell, write_cell, begin, note, answering}
-use Rattle.ecf_lang.specs.Meaning.{Frame, Flow, On, Back, value_of, stmt_of, charge, fetch, chain, own, named, or_revert, applied, in_turn, on, assign, body_of, locals_of, frame_of, ways, invoke, fresh, calls_of, ran, run, answered}
+use Rattle.ecf_lang.specs.Running.{State, Reached, Gives, Halts, RunsOut, Running, after, ◌>>=◌, ◌>>◌, pure, revert, pay, changed, charged, read_cell, write_cell, begin, note, answering}
+use Rattle.ecf_lang.specs.Meaning.{Frame, Flow, On, Back, value_of, stmt_of, charge, fetch, chain, own, named, or_revert, applied, in_turn, on, body_of, locals_of, frame_of, ways, invoke, fresh, calls_of, ran, run, answered}
 use Rattle.ecf_lang.proofs.Forms.{value_number, value_name, value_sum, stmt_set, stmt_return, stmt_revert, block_is, anew_is}
 use Rattle.ecf_interp.specs.Built.{IsBuilt, IsBuiltStmt, IsBuiltBlock, is_built_expr, is_built_part, is_built_stmt, is_add, is_plain, is_field}
 use Rattle.ecf_interp.specs.Load.{size_of, parts_size}
@@ -107,7 +105,7 @@ module _ (store : Store) (frame : Frame) where
         let both = three (is_add part.0) (is_built_expr part.1) (list_all is_built_part rest) built in
         let others = parts_stay n smaller rest (omega arith) both.1 in
         stays_then frame.inv (value part.1) _ (smaller part.1 (omega arith) both.0) (λ y.
-          stays_paid 1 _ (stays_then frame.inv (or_revert (applied part.0 x y)) _ (stays_result frame.inv (applied part.0 x y)) others))
+        stays_paid 1 _ (stays_then frame.inv (or_revert (applied part.0 x y)) _ (stays_result frame.inv (applied part.0 x y)) others))
       where
         three : (a b c : Bool) → (a && b && c) ≡ true → (b ≡ true) × (c ≡ true)
         three true true c h = (refl, h)
@@ -124,6 +122,7 @@ module _ (store : Store) (frame : Frame) where
       where
         at : (e' : TypedExpr) → e ≡ e' → Stays frame.inv (value e') → Stays frame.inv (value e)
         at e' is stays = subst (λ e. Stays frame.inv (value e)) (sym is) stays
+
         layers : (l : TypedExpr-F TypedCall TypedExpr) → e ≡ roll-TypedExpr l → Stays frame.inv (value e)
         layers (TypedExpr-F.Number v) is =
             at (expr.Number v) (is ∙ expr.rolls-Number v) (stays_is frame.inv _ _ (value_number store frame locals v) (stays_paid 1 (pure v) (stays_pure frame.inv v)))
@@ -135,7 +134,7 @@ module _ (store : Store) (frame : Frame) where
             let parts = built_parts e first rest e_is built in
             let sized : size_of e ≡ size_of first + parts_size rest + 2 = ap size_of e_is ∙ size_sum first rest in
             at (expr.Sum first rest) e_is (stays_is frame.inv _ _ (value_sum store frame locals first rest)
-              (stays_then frame.inv (value first) _ (smaller first (omega arith) parts.0) (parts_stay n smaller rest (omega arith) parts.1)))
+            (stays_then frame.inv (value first) _ (smaller first (omega arith) parts.0) (parts_stay n smaller rest (omega arith) parts.1)))
         layers l is = absurd (false≢true (sym (ap is_built_expr is ∙ expr_roll l) ∙ built))
 
     built_stays : (n : ℕ) (e : TypedExpr) → size_of e < n → is_built_expr e ≡ true → Stays frame.inv (value e)
@@ -148,7 +147,7 @@ module _ (store : Store) (frame : Frame) where
     set_stays : (to : Assignee) (e : TypedExpr) → is_field to && is_built_expr e ≡ true → Stays frame.inv (stmt_of store frame (stmt.Set to e) locals)
     set_stays (assignee.Plain field) e built =
         stays_is frame.inv _ _ (stmt_set store frame (assignee.Plain field) e locals) (stays_paid 1 _ (stays_then frame.inv (value e) _ (value_stays e built) (λ v.
-          stays_paid 4 _ (stays_then frame.inv (write_cell frame.inv (own store frame field 0) v) _ (stays_write frame.inv (own store frame field 0) v) (λ _. stays_pure frame.inv (On locals))))))
+        stays_paid 4 _ (stays_then frame.inv (write_cell frame.inv (own store frame field 0) v) _ (stays_write frame.inv (own store frame field 0) v) (λ _. stays_pure frame.inv (On locals))))))
     set_stays (assignee.Local n) e built = absurd (false≢true built)
 
     stmt_stays : (t : TypedStmt) → is_built_stmt (out-TypedStmt t) ≡ true → Stays frame.inv (stmt_of store frame t locals)
@@ -156,14 +155,15 @@ module _ (store : Store) (frame : Frame) where
       where
         at : (t' : TypedStmt) → t ≡ t' → Stays frame.inv (stmt_of store frame t' locals) → Stays frame.inv (stmt_of store frame t locals)
         at t' is stays = subst (λ t. Stays frame.inv (stmt_of store frame t locals)) (sym is) stays
+
         layers : (l : TypedStmt-F TypedStmt TypedBlock) → t ≡ roll-TypedStmt l → is_built_stmt l ≡ true → Stays frame.inv (stmt_of store frame t locals)
         layers (TypedStmt-F.Set to e) is built = at (stmt.Set to e) (is ∙ stmt.rolls-Set to e) (set_stays to e built)
         layers (TypedStmt-F.Return e) is built =
             at (stmt.Return e) (is ∙ stmt.rolls-Return e) (stays_is frame.inv _ _ (stmt_return store frame e locals)
-              (stays_paid 1 _ (stays_then frame.inv (value e) _ (value_stays e built) (λ v. stays_pure frame.inv (Back v)))))
+            (stays_paid 1 _ (stays_then frame.inv (value e) _ (value_stays e built) (λ v. stays_pure frame.inv (Back v)))))
         layers (TypedStmt-F.Revert e) is built =
             at (stmt.Revert e) (is ∙ stmt.rolls-Revert e) (stays_is frame.inv _ _ (stmt_revert store frame e locals)
-              (stays_paid 1 _ (stays_then frame.inv (value e) _ (value_stays e built) (λ v. stays_revert frame.inv (User v)))))
+            (stays_paid 1 _ (stays_then frame.inv (value e) _ (value_stays e built) (λ v. stays_revert frame.inv (User v)))))
         layers l is built = absurd (false≢true built)
 
   -- statements one after the other
@@ -197,8 +197,8 @@ first_call typed store to name args fuel built =
     by_method None is = no_steps 0 [] refl
     by_method (Some method) is =
         (stays_then 0 (body_of store (frame_of typed store (ways typed store 63) to 0) (Some method) args) _
-          (body_stays store (frame_of typed store (ways typed store 63) to 0) method args (method_built typed to name method built is))
-          (λ v. stays_then 0 (note (answering v) 0) _ (stays_note 0 (answering v) 0) (λ _. stays_pure 0 v))).kept (reached_state (begin to name args (fresh fuel))) (no_steps 0 [] refl)
+        (body_stays store (frame_of typed store (ways typed store 63) to 0) method args (method_built typed to name method built is))
+        (λ v. stays_then 0 (note (answering v) 0) _ (stays_note 0 (answering v) 0) (λ _. stays_pure 0 v))).kept (reached_state (begin to name args (fresh fuel))) (no_steps 0 [] refl)
 
 -- a run's steps are those of where its calls led
 ran_steps : (store : Store) (limit : ℕ) (r : Reached ℕ) → (ran store limit r).steps ≡ (reached_state r).steps

@@ -5,5 +5,4 @@ ghost use Rattle.ecf_interp.specs.OneInvocation.{StepsAreOfTheFirst};
 /// A transaction of one call opens one invocation, and all its steps are of it.
 pub fn steps_are_of_the_first_invocation()
     ensures { StepsAreOfTheFirst }
-{
-}
+{}
