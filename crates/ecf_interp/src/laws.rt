@@ -2,7 +2,7 @@
 
 ghost use Rattle.ecf_interp.specs.OneInvocation.{StepsAreOfTheFirst};
 
-/// A transaction of one call opens one invocation, and all its steps are of it.
+/// In a transaction of one call each step is of the first invocation, on any store.
 pub fn steps_are_of_the_first_invocation()
     ensures { StepsAreOfTheFirst }
 {}
