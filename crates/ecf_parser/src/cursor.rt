@@ -1,11 +1,13 @@
 //! A place among the tokens of a source, and the reading of single tokens there.
 
-ghost use Rattle.std.specs.Prelude.{◌≡◌, ◌<◌, ◌≤◌, length, true, IfOk, OnOk, IsTrue, IsSome};
+ghost use Rattle.std.specs.Prelude.{◌≡◌, ◌<◌, ◌≤◌, length, false, OnOk, IsTrue, IsSome};
+ghost use Rattle.ecf_grammar.specs.Lexemes.{lexemes_of, numbered};
+ghost use Rattle.ecf_grammar.specs.Reading as reading;
 ghost use Rattle.ecf_parser.specs.Parsers as spec;
 ghost use Rattle.ecf_parser.specs.Outcome.{Reads};
 
 use crate::tables::{is_name, is_sign, is_word, number_in};
-use ecf_grammar::{Kind, Sign, Token, Word};
+use ecf_grammar::{tokens_in_place, Kind, Sign, Token, Word};
 use ecf_lang::name::Name;
 use std::alloc::{AllocError, Global};
 use std::marker::Model;
@@ -51,6 +53,20 @@ impl<'a> Model for Cursor<'a> {
 }
 
 impl<'a> Cursor<'a> {
+    /// The place before the first of the source's tokens.
+    pub fn new(alloc: Global, source: &'a [u8], tokens: &'a [Token]) -> Cursor<'a>
+        requires { reading.Reads source.now tokens.now }
+        ensures { result ≡ numbered 0 (lexemes_of source.now tokens.now) }
+    {
+        tokens_in_place();
+        Cursor {
+            alloc,
+            source,
+            at: 0,
+            tokens,
+        }
+    }
+
     /// The kind of the next token.
     pub fn peek(&self) -> Option<Kind>
         ensures { result ≡ spec.next self.now }
@@ -163,6 +179,7 @@ impl<'a> Cursor<'a> {
     pub fn eat_sign(&mut self, sign: Sign) -> bool
         ensures read { spec.eat_sign sign self.old ≡ Ok (result, self.new) }
         ensures fewer { IsTrue result → length self.new < length self.old }
+        ensures kept { result ≡ false → self.new ≡ self.old }
     {
         if self.sees(sign) {
             self.skip();
@@ -176,6 +193,7 @@ impl<'a> Cursor<'a> {
     pub fn eat_word(&mut self, word: Word) -> bool
         ensures read { spec.eat_word word self.old ≡ Ok (result, self.new) }
         ensures fewer { IsTrue result → length self.new < length self.old }
+        ensures kept { result ≡ false → self.new ≡ self.old }
     {
         if self.sees_word(word) {
             self.skip();

@@ -3,6 +3,7 @@
 
 mod cursor;
 mod laws;
+mod small;
 mod tables;
 
 pub use laws::{one_answer, one_tree, some_answer};
