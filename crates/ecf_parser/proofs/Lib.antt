@@ -11,3 +11,4 @@ pub mod Cursors
 pub mod Loops
 pub mod Faults
 pub mod Decided
+pub mod SmallLaws
