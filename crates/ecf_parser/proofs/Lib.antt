@@ -12,3 +12,4 @@ pub mod Loops
 pub mod Faults
 pub mod Decided
 pub mod SmallLaws
+pub mod SmallTakes
