@@ -13,3 +13,4 @@ pub mod Faults
 pub mod Decided
 pub mod SmallLaws
 pub mod SmallTakes
+pub mod SmallLoops

@@ -1,7 +1,6 @@
 -- What the loops of the code keep: the items so far, in front of what reading the rest gives.
-use Rattle.std.proofs.Common.{◌≡◌, ℕ, Bool, true, false, cond, List, [], ◌∷◌, ◌++◌, length, Option, Some, None, Ok, Err, refl, sym, ap, ◌∙◌, append_assoc}
+use Rattle.std.proofs.Common.{◌≡◌, Bool, true, false, cond, List, [], ◌∷◌, ◌++◌, Option, Some, None, Ok, Err, refl, sym, ap, ◌∙◌, append_assoc}
 use Rattle.ecf_grammar.specs.declared.tokens.Kind.{Kind}
-use Rattle.ecf_grammar.specs.declared.tokens.Word.TheVariants as w
 use Rattle.ecf_grammar.specs.declared.tokens.Sign.{Sign}
 use Rattle.ecf_grammar.specs.declared.tokens.Sign.TheVariants as s
 use Rattle.ecf_lang.specs.declared.tree.Op.{Op}
@@ -44,15 +43,15 @@ module _ {A : Type 0} (t : Sign) (item : Parser A) (opens : (ls : Numbered) → 
   each_over xs ls mid e = ap (front xs) (opens ls ∙ via (each_found item (each t item)) e refl) ∙ ap (λ t. Ok (t, mid)) (front_nothing xs)
 
 module _ {A : Type 0} (table : Sign → Option Op) (item : Parser A) (opens : (ls : Numbered) → chain table item ls ≡ chain_turn table item (chain table item) ls) where
-  chain_more : (xs : List (Op × A)) (ls rest : Numbered) (o : Op) (x : A) → op_at table (next ls) ≡ Some o → item (behind ls) ≡ Ok (x, rest) → front xs (chain table item ls) ≡ front (xs ++ (o, x) ∷ []) (chain table item rest)
+  pub chain_more : (xs : List (Op × A)) (ls rest : Numbered) (o : Op) (x : A) → op_at table (next ls) ≡ Some o → item (behind ls) ≡ Ok (x, rest) → front xs (chain table item ls) ≡ front (xs ++ (o, x) ∷ []) (chain table item rest)
   unfolding operator
   chain_more xs ls rest o x e k = ap (front xs) (opens ls ∙ via (chain_by item (chain table item)) (ap (λ p. took p ls) e) (via _ k refl)) ∙ front_push xs (o, x) (chain table item rest)
 
-  chain_stuck : (xs : List (Op × A)) (ls rest : Numbered) (o : Op) → op_at table (next ls) ≡ Some o → item (behind ls) ≡ Err rest → front xs (chain table item ls) ≡ Err rest
+  pub chain_stuck : (xs : List (Op × A)) (ls rest : Numbered) (o : Op) → op_at table (next ls) ≡ Some o → item (behind ls) ≡ Err rest → front xs (chain table item ls) ≡ Err rest
   unfolding operator
   chain_stuck xs ls rest o e k = ap (front xs) (opens ls ∙ via (chain_by item (chain table item)) (ap (λ p. took p ls) e) (ap (λ z. and_then z (λ x. chain table item >>= (λ xs. pure ((o, x) ∷ xs)))) k))
 
-  chain_over : (xs : List (Op × A)) (ls : Numbered) → op_at table (next ls) ≡ None → front xs (chain table item ls) ≡ Ok (xs, ls)
+  pub chain_over : (xs : List (Op × A)) (ls : Numbered) → op_at table (next ls) ≡ None → front xs (chain table item ls) ≡ Ok (xs, ls)
   unfolding operator
   chain_over xs ls e = ap (front xs) (opens ls ∙ via (chain_by item (chain table item)) (ap (λ p. took p ls) e) refl) ∙ ap (λ t. Ok (t, ls)) (front_nothing xs)
 

@@ -1,5 +1,5 @@
 -- The readers of a small file do well: what they read is spelled.
-use Rattle.std.proofs.Common.{◌≡◌, ℕ, suc, ◌+◌, ◌-◌, ◌<◌, ◌≤◌, List, [], ◌∷◌, ◌++◌, length, Option, Some, None, Ok, Err, refl, sym, ap, subst, ◌∙◌, arith}
+use Rattle.std.proofs.Common.{◌≡◌, ℕ, suc, ◌+◌, ◌<◌, List, [], ◌∷◌, ◌++◌, length, Option, Some, None, Ok, Err, sym, ap, subst, ◌∙◌, arith}
 use Rattle.ecf_grammar.specs.declared.tokens.Kind.{Kind}
 use Rattle.ecf_grammar.specs.declared.tokens.Kind.TheVariants as kind
 use Rattle.ecf_grammar.specs.declared.tokens.Word.TheVariants as w
@@ -12,15 +12,14 @@ use Rattle.ecf_lang.specs.declared.tree.Expr.{Expr}
 use Rattle.ecf_lang.specs.declared.tree.Expr.TheVariants as e
 use Rattle.ecf_lang.specs.declared.tree.Stmt.{Stmt}
 use Rattle.ecf_lang.specs.declared.tree.Stmt.TheVariants as st
-use Rattle.ecf_lang.specs.declared.tree.Block.{Block, roll-Block}
-use Rattle.ecf_lang.specs.declared.tree.Member.{Member}
+use Rattle.ecf_lang.specs.declared.tree.Block.{roll-Block}
 use Rattle.ecf_lang.specs.declared.tree.Member.TheVariants as m
 use Rattle.ecf_lang.specs.declared.tree.Tree.{Tree}
 use Rattle.ecf_grammar.specs.Lexemes.{Lexeme, Numbered}
 use Rattle.ecf_grammar.specs.Lexemes.Lexeme.{NameOf, NumberOf, WordOf, SignOf}
 use Rattle.ecf_grammar.specs.Spells.{Is, sum_of, SpellsAll}
 use Rattle.ecf_grammar.specs.Spells.Is.{is}
-use Rattle.ecf_parser.specs.Parsers.{Outcome, Parser, and_then, ◌>>=◌, pure, refuse, when, next, is_sign, sign, word, name, chain, chain_turn, until, until_turn}
+use Rattle.ecf_parser.specs.Parsers.{Outcome, Parser, and_then, ◌>>=◌, pure, refuse, when, is_sign, sign, word, name, chain, chain_turn, until, until_turn}
 use Rattle.ecf_parser.specs.Descent.{at_end}
 use Rattle.ecf_parser.specs.SmallFile.{SpellsSmallSum, SpellsSmallTerms, SpellsSmallAtom, SpellsSmallStmt, SpellsSmallField, SpellsSmallBody, SpellsSmallMethod, SpellsSmallMembers, SpellsSmallFile}
 use Rattle.ecf_parser.specs.SmallDescent.{plus_op, small_atom_by, small_atom, small_sum_over, small_sum, small_value, small_stmt_by, small_stmt, small_body, small_field, small_method, small_members_by, small_members, small_file}

@@ -1,16 +1,14 @@
 -- What is spelled is read: small files.
-use Rattle.std.proofs.Common.{◌≡◌, ℕ, List, [], ◌∷◌, ◌++◌, Option, Some, None, Ok, true, false, refl, sym, ap, ◌∙◌}
+use Rattle.std.proofs.Common.{◌≡◌, ℕ, List, [], ◌∷◌, ◌++◌, None, Ok, true, false, refl, sym, ap, ◌∙◌}
 use Rattle.ecf_grammar.specs.declared.tokens.Word.TheVariants as w
 use Rattle.ecf_grammar.specs.declared.tokens.Sign.TheVariants as s
-use Rattle.ecf_lang.specs.declared.tree.Ty.TheVariants.{Num}
 use Rattle.ecf_lang.specs.declared.tree.Op.{Op}
 use Rattle.ecf_lang.specs.declared.tree.Expr.{Expr}
 use Rattle.ecf_lang.specs.declared.tree.Expr.TheVariants as e
 use Rattle.ecf_lang.specs.declared.tree.Stmt.{Stmt}
 use Rattle.ecf_lang.specs.declared.tree.Stmt.TheVariants as st
-use Rattle.ecf_lang.specs.declared.tree.Block.{Block, roll-Block}
+use Rattle.ecf_lang.specs.declared.tree.Block.{Block}
 use Rattle.ecf_lang.specs.declared.tree.Member.{Member}
-use Rattle.ecf_lang.specs.declared.tree.Member.TheVariants as m
 use Rattle.ecf_lang.specs.declared.tree.Tree.{Tree}
 use Rattle.ecf_grammar.specs.Lexemes.{Numbered}
 use Rattle.ecf_grammar.specs.Lexemes.Lexeme.{NameOf, NumberOf, WordOf, SignOf}
