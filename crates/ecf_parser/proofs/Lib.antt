@@ -11,4 +11,7 @@ pub mod Cursors
 pub mod Loops
 pub mod Faults
 pub mod Decided
+pub mod SmallLaws
+pub mod SmallTakes
+pub mod SmallLoops
 pub mod SmallTurns

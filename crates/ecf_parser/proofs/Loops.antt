@@ -1,7 +1,6 @@
 -- What the loops of the code keep: the items so far, in front of what reading the rest gives.
-use Rattle.std.proofs.Common.{◌≡◌, ℕ, Bool, true, false, cond, List, [], ◌∷◌, ◌++◌, length, Option, Some, None, Ok, Err, refl, sym, ap, ◌∙◌, append_assoc}
+use Rattle.std.proofs.Common.{◌≡◌, Bool, true, false, cond, List, [], ◌∷◌, ◌++◌, Option, Some, None, Ok, Err, refl, sym, ap, ◌∙◌, append_assoc}
 use Rattle.ecf_grammar.specs.declared.tokens.Kind.{Kind}
-use Rattle.ecf_grammar.specs.declared.tokens.Word.TheVariants as w
 use Rattle.ecf_grammar.specs.declared.tokens.Sign.{Sign}
 use Rattle.ecf_grammar.specs.declared.tokens.Sign.TheVariants as s
 use Rattle.ecf_lang.specs.declared.tree.Op.{Op}

@@ -55,7 +55,7 @@ impl<'a> Cursor<'a> {
 
     /// Atoms with `+` between.
     #[cycle(sums)]
-    #[tactic(auto, using(crate::proofs::SmallTurns::small_sum_done, crate::proofs::SmallTurns::small_sum_first, crate::proofs::SmallTurns::small_sum_rest, crate::proofs::Loops::front_nil, crate::proofs::SmallTurns::plus_more, crate::proofs::SmallTurns::plus_stuck, crate::proofs::SmallTurns::plus_over))]
+    #[tactic(auto, using(crate::proofs::SmallLoops::small_sum_done, crate::proofs::SmallLoops::small_sum_first, crate::proofs::SmallLoops::small_sum_rest, crate::proofs::Loops::front_nil, crate::proofs::SmallTurns::plus_more, crate::proofs::SmallTurns::plus_stuck, crate::proofs::SmallTurns::plus_over))]
     fn small_sum(&mut self) -> Result<Expr, Stop>
         ensures read { Reads (spec.small_sum self.old) result self.new }
         ensures fewer { OnOk result (length self.new < length self.old) }
@@ -114,7 +114,7 @@ impl<'a> Cursor<'a> {
     }
 
     /// Statements up to a closing brace.
-    #[tactic(auto, using(crate::proofs::Loops::front_nil, crate::proofs::SmallTurns::stmts_more, crate::proofs::SmallTurns::stmts_stuck, crate::proofs::SmallTurns::stmts_over))]
+    #[tactic(auto, using(crate::proofs::Loops::front_nil, crate::proofs::SmallLoops::small_stmts_more, crate::proofs::SmallLoops::small_stmts_stuck, crate::proofs::SmallLoops::small_stmts_over))]
     fn small_stmts(&mut self) -> Result<Items<Stmt>, Stop>
         ensures read { Reads (reading.until (reading.is_sign signs.CloseBrace) spec.small_stmt self.old) result self.new }
         ensures no_more { OnOk result (length self.new ≤ length self.old) }
