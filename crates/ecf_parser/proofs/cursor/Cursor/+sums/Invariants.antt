@@ -11,7 +11,7 @@ abbrev pub decreases-small_atom : goal.decreases-small_atom
 decreases-small_atom l = 2 * length l.self.now
 
 abbrev pub invariant-small_sum-terms : goal.invariant-small_sum-terms
-invariant-small_sum-terms l = record { same : reading.front l.rest (reading.chain spec.plus_op (spec.small_atom spec.small_sum) l.self) ≡ reading.chain spec.plus_op (spec.small_atom spec.small_sum) l.initial.self; fewer : length l.self < length l.fn.self }
+invariant-small_sum-terms l = record { same : reading.front l.rest (reading.chain spec.plus_op (spec.small_atom spec.small_sum) l.self) ≡ reading.chain spec.plus_op (spec.small_atom spec.small_sum) l.initial.self; fewer : length l.self < length l.fn.self; first : l.first ≡ l.initial.first }
 
 abbrev pub decreases-small_sum-terms : goal.decreases-small_sum-terms
 decreases-small_sum-terms l = length l.self
