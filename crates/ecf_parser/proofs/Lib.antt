@@ -15,3 +15,4 @@ pub mod SmallLaws
 pub mod SmallTakes
 pub mod SmallLoops
 pub mod SmallTurns
+pub mod SmallAnswers

@@ -3,7 +3,9 @@
 
 mod cursor;
 mod laws;
+mod nesting;
 mod small;
 mod tables;
 
 pub use laws::{one_answer, one_tree, some_answer};
+pub use small::read_small;

@@ -1,6 +1,10 @@
 //! Small files, those that can be run: a function for each line of their grammar.
 
-ghost use Rattle.std.specs.Prelude.{◌≡◌, ◌<◌, ◌≤◌, length, IfOk, OnOk};
+ghost use Rattle.std.specs.Prelude.{◌≡◌, ◌<◌, ◌≤◌, length, IfOk, OnOk, IfSome, IfNone};
+ghost use Rattle.ecf_grammar.specs.Lexemes.{lexemes_of};
+ghost use Rattle.ecf_grammar.specs.Reading as tokens_of;
+ghost use Rattle.ecf_lang.specs.declared.tree.Tree.{Tree};
+ghost use Rattle.ecf_parser.specs.SmallFile.{IsSmallFileOf};
 ghost use Rattle.ecf_grammar.specs.Spells as grammar;
 ghost use Rattle.ecf_grammar.specs.declared.tokens.Sign.TheVariants as signs;
 ghost use Rattle.ecf_parser.specs.Parsers as reading;
@@ -8,10 +12,32 @@ ghost use Rattle.ecf_parser.specs.SmallDescent as spec;
 ghost use Rattle.ecf_parser.specs.Outcome.{Reads};
 
 use crate::cursor::{Cursor, Stop};
-use ecf_grammar::{Kind, Sign, Word};
+use crate::nesting::is_shallow;
+use ecf_grammar::{Kind, Sign, Token, Word};
 use ecf_lang::tree::{Block, Expr, Member, ObjectDecl, Op, Stmt, Tree, Ty};
 use sqlite_items::{Boxed, Items};
 use std::alloc::{AllocError, Global};
+
+/// Reads the tokens of a source as a file that can be run, or answers none where they are no such file. An error says
+/// that memory ran out.
+pub fn read_small(
+    alloc: Global,
+    source: &[u8],
+    tokens: &[Token],
+) -> Result<Option<Tree>, AllocError>
+    requires { tokens_of.Reads source.now tokens.now }
+    ensures some { IfOk result (λ read. IfSome read (IsSmallFileOf (lexemes_of source.now tokens.now))) }
+    ensures none { IfOk result (λ read. IfNone read ((tree : Tree) → IsSmallFileOf (lexemes_of source.now tokens.now) tree → ⊥)) }
+{
+    if !is_shallow(tokens) {
+        return Ok(None);
+    }
+    match Cursor::new(alloc, source, tokens).small_file() {
+        Ok(tree) => Ok(Some(tree)),
+        Err(Stop::Fault) => Ok(None),
+        Err(Stop::NoMemory) => Err(AllocError),
+    }
+}
 
 /// A first term with further ones, which alone stays as it is.
 fn sum_of(alloc: Global, first: Expr, rest: Items<(Op, Expr)>) -> Result<Expr, AllocError>
