@@ -16,3 +16,4 @@ pub mod SmallTakes
 pub mod SmallLoops
 pub mod SmallTurns
 pub mod SmallAnswers
+pub mod Shallow
