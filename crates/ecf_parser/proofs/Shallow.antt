@@ -33,7 +33,7 @@ module _ (p : Lexeme → Bool) (q : Token → Bool) (source : List ℕ) (same : 
   count_along [] zero = refl
   count_along [] (suc n) = refl
   count_along (t ∷ tokens) zero = refl
-  count_along (t ∷ tokens) (suc n) = cc (same t, count_along tokens n)
+  count_along (t ∷ tokens) (suc n) = rw (same t, count_along tokens n) refl
 
   len_along : (tokens : List Token) → length (lexemes_of source tokens) ≡ length tokens
   len_along [] = refl
