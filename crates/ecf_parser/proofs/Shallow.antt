@@ -1,5 +1,5 @@
 -- How deep tokens are nested, by their kinds alone.
-use Rattle.std.proofs.Common.{◌≡◌, ℕ, zero, suc, ◌+◌, ◌-◌, ◌<◌, ◌≤◌, Bool, List, [], ◌∷◌, length, take, refl, sym, subst, arith}
+use Rattle.std.proofs.Common.{◌≡◌, ℕ, zero, suc, ◌+◌, ◌-◌, ◌<◌, ◌≤◌, Bool, List, [], ◌∷◌, length, take, cond, refl, ap, arith}
 use Rattle.std.specs.Prelude.{count_by, slice_range}
 use Rattle.ecf_grammar.specs.declared.tokens.Kind.{Kind}
 use Rattle.ecf_grammar.specs.declared.tokens.Kind.TheVariants as kind
@@ -33,7 +33,9 @@ module _ (p : Lexeme → Bool) (q : Token → Bool) (source : List ℕ) (same : 
   count_along [] zero = refl
   count_along [] (suc n) = refl
   count_along (t ∷ tokens) zero = refl
-  count_along (t ∷ tokens) (suc n) = rw (same t, count_along tokens n) refl
+  count_along (t ∷ tokens) (suc n) =
+      let here : cond {A = ℕ} (p (lexeme t.kind (slice_range source t.start t.end))) 1 0 ≡ cond {A = ℕ} (q t) 1 0 = ap (λ b. cond {A = ℕ} b 1 0) (same t) in
+      omega (arith, here, count_along tokens n)
 
   len_along : (tokens : List Token) → length (lexemes_of source tokens) ≡ length tokens
   len_along [] = refl
