@@ -1,5 +1,5 @@
 -- How deep tokens are nested, by their kinds alone.
-use Rattle.std.proofs.Common.{◌≡◌, ℕ, zero, suc, ◌+◌, ◌-◌, ◌<◌, ◌≤◌, Bool, List, [], ◌∷◌, length, take, cond, refl, ap, arith}
+use Rattle.std.proofs.Common.{◌≡◌, ℕ, zero, suc, ◌+◌, ◌-◌, ◌<◌, ◌≤◌, Bool, List, [], ◌∷◌, length, take, cond, fold, refl, ap, ◌∙◌, arith}
 use Rattle.std.specs.Prelude.{count_by, slice_range}
 use Rattle.ecf_grammar.specs.declared.tokens.Kind.{Kind}
 use Rattle.ecf_grammar.specs.declared.tokens.Kind.TheVariants as kind
@@ -29,13 +29,14 @@ closes_any (kind.Word v) bytes = refl
 closes_any (kind.Sign v) bytes = refl
 
 module _ (p : Lexeme → Bool) (q : Token → Bool) (source : List ℕ) (same : (t : Token) → p (lexeme t.kind (slice_range source t.start t.end)) ≡ q t) where
+  count_from : (tokens : List Token) (n from : ℕ) → fold (λ a x. a + cond {A = ℕ} (p x) 1 0) from (take n (lexemes_of source tokens)) ≡ fold (λ a x. a + cond {A = ℕ} (q x) 1 0) from (take n tokens)
+  count_from [] zero from = refl
+  count_from [] (suc n) from = refl
+  count_from (t ∷ tokens) zero from = refl
+  count_from (t ∷ tokens) (suc n) from = ap (λ (b : Bool). fold (λ a x. a + cond {A = ℕ} (p x) 1 0) (from + cond {A = ℕ} b 1 0) (take n (lexemes_of source tokens))) (same t) ∙ count_from tokens n (from + cond {A = ℕ} (q t) 1 0)
+
   count_along : (tokens : List Token) (n : ℕ) → count_by p (take n (lexemes_of source tokens)) ≡ count_by q (take n tokens)
-  count_along [] zero = refl
-  count_along [] (suc n) = refl
-  count_along (t ∷ tokens) zero = refl
-  count_along (t ∷ tokens) (suc n) =
-      let here : cond {A = ℕ} (p (lexeme t.kind (slice_range source t.start t.end))) 1 0 ≡ cond {A = ℕ} (q t) 1 0 = ap (λ b. cond {A = ℕ} b 1 0) (same t) in
-      omega (arith, here, count_along tokens n)
+  count_along tokens n = count_from tokens n 0
 
   len_along : (tokens : List Token) → length (lexemes_of source tokens) ≡ length tokens
   len_along [] = refl
