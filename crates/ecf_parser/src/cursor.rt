@@ -7,7 +7,7 @@ ghost use Rattle.ecf_parser.specs.Parsers as spec;
 ghost use Rattle.ecf_parser.specs.Outcome.{Reads};
 
 use crate::tables::{is_name, is_sign, is_word, number_in};
-use ecf_grammar::{tokens_in_place, Kind, Sign, Token, Word};
+use ecf_grammar::{Kind, Sign, Token, Word, tokens_in_place};
 use ecf_lang::name::Name;
 use std::alloc::{AllocError, Global};
 use std::marker::Model;

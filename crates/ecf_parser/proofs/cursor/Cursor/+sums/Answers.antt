@@ -16,7 +16,7 @@ small_sum-terms-preserved t c =
 pub small_sum-returns-in_err-small_atom-clause-read : goal.small_sum-returns-in_err-small_atom-clause-read
 small_sum-returns-in_err-small_atom-clause-read t c =
     let stopped : c.in_err-small_atom.field-0.0 ≢ NoMemory → small_sum c.args.self.now ≡ Err c.small_atom-in-terms.new.self = λ other.
-        small_sum_rest c.args.self.now c.small_atom.new.self c.in_ok-first.first c.small_atom-in-terms.new.self c.in_ok-first.ensures.read (sym c.terms.invariant.same ∙ plus_stuck c.terms.rest c.terms.self c.eat_sign.new.self c.small_atom-in-terms.new.self c.eat_sign.result c.eat_sign.ensures.read c.terms-test.true (c.in_err-small_atom.ensures.read other)) in
+    small_sum_rest c.args.self.now c.small_atom.new.self c.in_ok-first.first c.small_atom-in-terms.new.self c.in_ok-first.ensures.read (sym c.terms.invariant.same ∙ plus_stuck c.terms.rest c.terms.self c.eat_sign.new.self c.small_atom-in-terms.new.self c.eat_sign.result c.eat_sign.ensures.read c.terms-test.true (c.in_err-small_atom.ensures.read other)) in
     grind (arith, common_steps, stopped)
 
 pub small_sum-returns-clause-read : goal.small_sum-returns-clause-read
