@@ -1,12 +1,13 @@
 -- What a cursor's steps make of the readers of single lexemes.
-use Rattle.std.proofs.Common.{◌≡◌, ℕ, ◌+◌, true, false, cond, List, [], ◌∷◌, length, Option, Some, None, IsSome, Ok, Err, refl, ap, arith}
+use Rattle.std.proofs.Common.{◌≡◌, ℕ, ◌+◌, ◌-◌, ◌<◌, Bool, true, false, cond, List, [], ◌∷◌, length, Option, Some, None, IsSome, Ok, Err, refl, sym, subst, ◌∙◌, ap, map, take, drop, get_or, arith}
+use Rattle.std.specs.Prelude.{slice_range}
 use Rattle.ecf_grammar.specs.declared.tokens.Kind.{Kind}
 use Rattle.ecf_grammar.specs.declared.tokens.Kind.TheVariants as kind
 use Rattle.ecf_grammar.specs.declared.tokens.Token.{Token}
 use Rattle.ecf_grammar.specs.declared.tokens.Word.{Word}
 use Rattle.ecf_grammar.specs.declared.tokens.Sign.{Sign}
 use Rattle.ecf_lang.specs.declared.tree.Op.{Op}
-use Rattle.ecf_grammar.specs.Lexemes.{Numbered, lexeme, numbered, lexemes_of}
+use Rattle.ecf_grammar.specs.Lexemes.{Lexeme, Numbered, lexeme, numbered, lexemes_of}
 use Rattle.ecf_grammar.specs.Lexemes.Lexeme.{NameOf, NumberOf, WordOf, SignOf}
 use Rattle.ecf_parser.specs.Parsers.{next, number_of, behind, is_sign, is_word, kind_of, is_name, number_in, bytes_in, bytes_of, sign, word, name, number, eat_sign, eat_word, op_at}
 
@@ -100,3 +101,9 @@ bytes_ahead kind.Name bytes h = refl
 bytes_ahead (kind.Number v) bytes h = absurd cc
 bytes_ahead (kind.Word v) bytes h = absurd cc
 bytes_ahead (kind.Sign v) bytes h = absurd cc
+
+pub bytes_first : (ls : Numbered) (at : ℕ) (source : List ℕ) (tokens : List Token) (d : Token) → ls ≡ numbered at (lexemes_of source tokens) → 0 < length tokens → is_name (next ls) ≡ true → take ((get_or tokens 0 d).end - (get_or tokens 0 d).start) (drop (get_or tokens 0 d).start source) ≡ bytes_of ls
+bytes_first ls at source [] d e some h = absurd (omega arith)
+bytes_first ls at source (t ∷ ts) d e some h =
+    let here : is_name (next (numbered at (lexemes_of source (t ∷ ts)))) ≡ true = subst (λ x. is_name (next x) ≡ true) e h in
+    sym (bytes_ahead t.kind (slice_range source t.start t.end) here) ∙ ap bytes_of (sym e)

@@ -121,7 +121,7 @@ same_then ls o f g (stuck a rest e c) h = refl
 abbrev pair_of : {A : Type 0} → A → Numbered → A × Numbered
 pair_of x r = (x, r)
 
-good_ok : {A : Type 0} {R : Numbered → A → Type 0} {ls : Numbered} (o : Outcome A) (x : A) (rest : Numbered) → Good R ls o → o ≡ Ok (x, rest) → (a : Numbered) × (ls ≡ a ++ rest) × R a x
+pub good_ok : {A : Type 0} {R : Numbered → A → Type 0} {ls : Numbered} (o : Outcome A) (x : A) (rest : Numbered) → Good R ls o → o ≡ Ok (x, rest) → (a : Numbered) × (ls ≡ a ++ rest) × R a x
 good_ok {A} {R = R} o x rest (reads a r y e h) g = let pair : pair_of y r ≡ pair_of x rest = cc in let f : y ≡ x = ap (λ (t : A × Numbered). t.0) pair in let k : r ≡ rest = ap (λ (t : A × Numbered). t.1) pair in (a, e ∙ ap (λ t. a ++ t) k, subst (λ t. R a t) f h)
 good_ok o x rest (stuck a r e h) g = absurd cc
 

@@ -11,3 +11,9 @@ pub mod Cursors
 pub mod Loops
 pub mod Faults
 pub mod Decided
+pub mod SmallLaws
+pub mod SmallTakes
+pub mod SmallLoops
+pub mod SmallTurns
+pub mod SmallAnswers
+pub mod Shallow

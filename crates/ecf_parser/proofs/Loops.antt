@@ -7,10 +7,10 @@ use Rattle.ecf_lang.specs.declared.tree.Op.{Op}
 use Rattle.ecf_lang.specs.declared.tree.Expr.{Expr}
 use Rattle.ecf_grammar.specs.Lexemes.{Numbered}
 use Rattle.ecf_grammar.specs.Spells.{either_of, both_of, sum_of, product_of, sum_op, product_op}
-use Rattle.ecf_parser.specs.Parsers.{Outcome, Parser, and_then, ◌>>=◌, pure, next, behind, eat_sign, op_at, took, operator, each, each_turn, chain, chain_by, chain_turn, until, until_turn, front}
+use Rattle.ecf_parser.specs.Parsers.{Outcome, Parser, and_then, ◌>>=◌, pure, next, behind, eat_sign, op_at, took, operator, each, each_turn, chain, chain_by, chain_turn, until, until_turn, front, is_sign, listed}
 use Rattle.ecf_parser.specs.Descent.{unary, product, sum, comparison, both, either, expr}
 use Rattle.ecf_parser.proofs.Expressions.{expr_is}
-use Rattle.ecf_parser.proofs.Takes.{via, each_found}
+use Rattle.ecf_parser.proofs.Takes.{via, each_found, listed_none}
 use Rattle.ecf_parser.proofs.TakesExpressions.{unary_opens, product_opens, comparison_opens, both_opens, expr_opens}
 
 pub front_nil : {A : Type 0} (o : Outcome (List A)) → front [] o ≡ o
@@ -24,6 +24,10 @@ front_push xs x (Err e) = refl
 pub front_nothing : {A : Type 0} (xs : List A) → xs ++ [] ≡ xs
 front_nothing [] = refl
 front_nothing (x ∷ xs) = ap (λ t. x ∷ t) (front_nothing xs)
+
+front_one : {A : Type 0} (x : A) (o : Outcome (List A)) → front (x ∷ []) o ≡ and_then o (λ xs. pure (x ∷ xs))
+front_one x (Ok p) = refl
+front_one x (Err e) = refl
 
 module _ {A : Type 0} (t : Sign) (item : Parser A) (opens : (ls : Numbered) → each t item ls ≡ each_turn t item (each t item) ls) where
   each_more : (xs : List A) (ls mid rest : Numbered) (x : A) → eat_sign t ls ≡ Ok (true, mid) → item mid ≡ Ok (x, rest) → front xs (each t item ls) ≡ front (xs ++ x ∷ []) (each t item rest)
@@ -39,15 +43,15 @@ module _ {A : Type 0} (t : Sign) (item : Parser A) (opens : (ls : Numbered) → 
   each_over xs ls mid e = ap (front xs) (opens ls ∙ via (each_found item (each t item)) e refl) ∙ ap (λ t. Ok (t, mid)) (front_nothing xs)
 
 module _ {A : Type 0} (table : Sign → Option Op) (item : Parser A) (opens : (ls : Numbered) → chain table item ls ≡ chain_turn table item (chain table item) ls) where
-  chain_more : (xs : List (Op × A)) (ls rest : Numbered) (o : Op) (x : A) → op_at table (next ls) ≡ Some o → item (behind ls) ≡ Ok (x, rest) → front xs (chain table item ls) ≡ front (xs ++ (o, x) ∷ []) (chain table item rest)
+  pub chain_more : (xs : List (Op × A)) (ls rest : Numbered) (o : Op) (x : A) → op_at table (next ls) ≡ Some o → item (behind ls) ≡ Ok (x, rest) → front xs (chain table item ls) ≡ front (xs ++ (o, x) ∷ []) (chain table item rest)
   unfolding operator
   chain_more xs ls rest o x e k = ap (front xs) (opens ls ∙ via (chain_by item (chain table item)) (ap (λ p. took p ls) e) (via _ k refl)) ∙ front_push xs (o, x) (chain table item rest)
 
-  chain_stuck : (xs : List (Op × A)) (ls rest : Numbered) (o : Op) → op_at table (next ls) ≡ Some o → item (behind ls) ≡ Err rest → front xs (chain table item ls) ≡ Err rest
+  pub chain_stuck : (xs : List (Op × A)) (ls rest : Numbered) (o : Op) → op_at table (next ls) ≡ Some o → item (behind ls) ≡ Err rest → front xs (chain table item ls) ≡ Err rest
   unfolding operator
   chain_stuck xs ls rest o e k = ap (front xs) (opens ls ∙ via (chain_by item (chain table item)) (ap (λ p. took p ls) e) (ap (λ z. and_then z (λ x. chain table item >>= (λ xs. pure ((o, x) ∷ xs)))) k))
 
-  chain_over : (xs : List (Op × A)) (ls : Numbered) → op_at table (next ls) ≡ None → front xs (chain table item ls) ≡ Ok (xs, ls)
+  pub chain_over : (xs : List (Op × A)) (ls : Numbered) → op_at table (next ls) ≡ None → front xs (chain table item ls) ≡ Ok (xs, ls)
   unfolding operator
   chain_over xs ls e = ap (front xs) (opens ls ∙ via (chain_by item (chain table item)) (ap (λ p. took p ls) e) refl) ∙ ap (λ t. Ok (t, ls)) (front_nothing xs)
 
@@ -163,3 +167,16 @@ commas_stuck = each_stuck s.Comma expr expr_opens
 
 pub commas_over : (xs : List Expr) (ls mid : Numbered) → eat_sign s.Comma ls ≡ Ok (false, mid) → front xs (each s.Comma expr ls) ≡ Ok (xs, mid)
 commas_over = each_over s.Comma expr expr_opens
+
+pub exprs_none : (ls : Numbered) → is_sign s.CloseParen (next ls) ≡ true → listed s.Comma s.CloseParen expr ls ≡ Ok ([], ls)
+exprs_none ls h = listed_none s.Comma s.CloseParen expr ls h
+
+listed_open : (ls : Numbered) → is_sign s.CloseParen (next ls) ≡ false → listed s.Comma s.CloseParen expr ls ≡ and_then (expr ls) (λ x. each s.Comma expr >>= (λ xs. pure (x ∷ xs)))
+unfolding listed
+listed_open ls h = ap (λ b. cond b (Ok ([], ls)) (and_then (expr ls) (λ x. each s.Comma expr >>= (λ xs. pure (x ∷ xs))))) h
+
+pub exprs_first : (ls rest : Numbered) → is_sign s.CloseParen (next ls) ≡ false → expr ls ≡ Err rest → listed s.Comma s.CloseParen expr ls ≡ Err rest
+exprs_first ls rest h e = listed_open ls h ∙ ap (λ o. and_then o (λ x. each s.Comma expr >>= (λ xs. pure (x ∷ xs)))) e
+
+pub exprs_some : (ls mid : Numbered) (x : Expr) → is_sign s.CloseParen (next ls) ≡ false → expr ls ≡ Ok (x, mid) → front (x ∷ []) (each s.Comma expr mid) ≡ listed s.Comma s.CloseParen expr ls
+exprs_some ls mid x h e = sym (listed_open ls h ∙ via _ e (sym (front_one x (each s.Comma expr mid))))

@@ -1,0 +1,60 @@
+-- How deep tokens are nested, by their kinds alone.
+use Rattle.std.proofs.Common.{◌≡◌, ℕ, zero, suc, ◌+◌, ◌-◌, ◌<◌, ◌≤◌, Bool, List, [], ◌∷◌, length, take, cond, fold, refl, ap, ◌∙◌, arith}
+use Rattle.std.specs.Prelude.{count_by, slice_range}
+use Rattle.ecf_grammar.specs.declared.tokens.Kind.{Kind}
+use Rattle.ecf_grammar.specs.declared.tokens.Kind.TheVariants as kind
+use Rattle.ecf_grammar.specs.declared.tokens.Token.{Token}
+use Rattle.ecf_grammar.specs.Lexemes.{Lexeme, lexeme, lexemes_of}
+use Rattle.ecf_grammar.specs.Nesting.{opens, closes, nesting, IsShallow}
+
+abbrev pub opens_token : Token → Bool
+opens_token t = opens (lexeme t.kind [])
+
+abbrev pub closes_token : Token → Bool
+closes_token t = closes (lexeme t.kind [])
+
+abbrev pub depth : List Token → ℕ → ℕ
+depth tokens n = count_by opens_token (take (n + 1) tokens) - count_by closes_token (take n tokens)
+
+opens_any : (k : Kind) (bytes : List ℕ) → opens (lexeme k bytes) ≡ opens (lexeme k [])
+opens_any kind.Name bytes = refl
+opens_any (kind.Number v) bytes = refl
+opens_any (kind.Word v) bytes = refl
+opens_any (kind.Sign v) bytes = refl
+
+closes_any : (k : Kind) (bytes : List ℕ) → closes (lexeme k bytes) ≡ closes (lexeme k [])
+closes_any kind.Name bytes = refl
+closes_any (kind.Number v) bytes = refl
+closes_any (kind.Word v) bytes = refl
+closes_any (kind.Sign v) bytes = refl
+
+module _ (p : Lexeme → Bool) (q : Token → Bool) (source : List ℕ) (same : (t : Token) → p (lexeme t.kind (slice_range source t.start t.end)) ≡ q t) where
+  count_from : (tokens : List Token) (n from : ℕ) → fold (λ a x. a + cond {A = ℕ} (p x) 1 0) from (take n (lexemes_of source tokens)) ≡ fold (λ a x. a + cond {A = ℕ} (q x) 1 0) from (take n tokens)
+  count_from [] zero from = refl
+  count_from [] (suc n) from = refl
+  count_from (t ∷ tokens) zero from = refl
+  count_from (t ∷ tokens) (suc n) from = ap (λ (b : Bool). fold (λ a x. a + cond {A = ℕ} (p x) 1 0) (from + cond {A = ℕ} b 1 0) (take n (lexemes_of source tokens))) (same t) ∙ count_from tokens n (from + cond {A = ℕ} (q t) 1 0)
+
+  count_along : (tokens : List Token) (n : ℕ) → count_by p (take n (lexemes_of source tokens)) ≡ count_by q (take n tokens)
+  count_along tokens n = count_from tokens n 0
+
+  len_along : (tokens : List Token) → length (lexemes_of source tokens) ≡ length tokens
+  len_along [] = refl
+  len_along (t ∷ tokens) = omega (arith, len_along tokens)
+
+lexemes_len : (source : List ℕ) (tokens : List Token) → length (lexemes_of source tokens) ≡ length tokens
+lexemes_len source tokens = len_along opens opens_token source (λ t. opens_any t.kind (slice_range source t.start t.end)) tokens
+
+nesting_is : (source : List ℕ) (tokens : List Token) (n : ℕ) → nesting (lexemes_of source tokens) n ≡ depth tokens n
+nesting_is source tokens n =
+    let o = count_along opens opens_token source (λ t. opens_any t.kind (slice_range source t.start t.end)) tokens (n + 1) in
+    let c = count_along closes closes_token source (λ t. closes_any t.kind (slice_range source t.start t.end)) tokens n in
+    omega (arith, o, c)
+
+pub all_shallow : (source : List ℕ) (tokens : List Token) → ((k : ℕ) → k < length tokens → depth tokens k ≤ 64) → IsShallow (lexemes_of source tokens) (length (lexemes_of source tokens))
+all_shallow source tokens h = λ k below within. let deep = h k (omega (arith, lexemes_len source tokens)) in omega (arith, nesting_is source tokens k)
+
+pub one_deep : (source : List ℕ) (tokens : List Token) (k : ℕ) → k < length tokens → 64 < depth tokens k → IsShallow (lexemes_of source tokens) (length (lexemes_of source tokens)) → ⊥
+one_deep source tokens k below deep h =
+    let within : k < length (lexemes_of source tokens) = omega (arith, lexemes_len source tokens) in
+    let low = h k within within in omega (arith, nesting_is source tokens k)

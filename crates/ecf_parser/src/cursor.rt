@@ -1,0 +1,204 @@
+//! A place among the tokens of a source, and the reading of single tokens there.
+
+ghost use Rattle.std.specs.Prelude.{◌≡◌, ◌<◌, ◌≤◌, length, false, OnOk, IsTrue, IsSome};
+ghost use Rattle.ecf_grammar.specs.Lexemes.{lexemes_of, numbered};
+ghost use Rattle.ecf_grammar.specs.Reading as reading;
+ghost use Rattle.ecf_parser.specs.Parsers as spec;
+ghost use Rattle.ecf_parser.specs.Outcome.{Reads};
+
+use crate::tables::{is_name, is_sign, is_word, number_in};
+use ecf_grammar::{Kind, Sign, Token, Word, tokens_in_place};
+use ecf_lang::name::Name;
+use std::alloc::{AllocError, Global};
+use std::marker::Model;
+
+/// Why reading stops.
+#[derive(Clone, Copy, Debug, PartialEq, Eq)]
+pub enum Stop {
+    /// The token at the cursor is out of place.
+    Fault,
+    NoMemory,
+}
+
+impl From<AllocError> for Stop {
+    ghost use Rattle.std.specs.Prelude.{◌≡◌};
+    ghost use Rattle.ecf_parser.specs.declared.cursor.Stop.TheVariants.{NoMemory};
+
+    ghost from_gives = { λ _ e. e ≡ NoMemory };
+
+    fn from(_: AllocError) -> Stop {
+        Stop::NoMemory
+    }
+}
+
+/// The tokens of a source from some place on, which contracts see as their numbered lexemes.
+#[derive(Drop)]
+pub struct Cursor<'a> {
+    pub alloc: Global,
+    source: &'a [u8],
+    /// The number of the first of the tokens.
+    at: u32,
+    tokens: &'a [Token],
+}
+
+impl<'a> Model for Cursor<'a> {
+    ghost use Rattle.ecf_grammar.specs.Lexemes.{Numbered};
+    ghost use Rattle.ecf_parser.specs.Ahead.{ahead, IsInside};
+
+    ghost Value = { Numbered };
+
+    ghost view = { ahead };
+
+    ghost invariant = { IsInside };
+}
+
+impl<'a> Cursor<'a> {
+    /// The place before the first of the source's tokens.
+    pub fn new(alloc: Global, source: &'a [u8], tokens: &'a [Token]) -> Cursor<'a>
+        requires { reading.Reads source.now tokens.now }
+        ensures { result ≡ numbered 0 (lexemes_of source.now tokens.now) }
+    {
+        tokens_in_place();
+        Cursor {
+            alloc,
+            source,
+            at: 0,
+            tokens,
+        }
+    }
+
+    /// The kind of the next token.
+    pub fn peek(&self) -> Option<Kind>
+        ensures { result ≡ spec.next self.now }
+    {
+        match self.tokens {
+            [first, ..] => Some(first.kind),
+            [] => None,
+        }
+    }
+
+    /// How many tokens are left.
+    #[tactic(auto, using(crate::proofs::Cursors::ahead_len))]
+    pub fn left(&self) -> usize
+        ensures { result ≡ length self.now }
+    {
+        let _at = self.at;
+        self.tokens.len()
+    }
+
+    /// Goes to the token behind the next one, and answers the number of that one.
+    pub fn skip(&mut self) -> u32
+        requires { IsSome (spec.next self.old) }
+        ensures behind { self.new ≡ spec.behind self.old }
+        ensures number { result ≡ spec.number_of self.old }
+        ensures fewer { length self.new < length self.old }
+    {
+        let at = self.at;
+        if let [_, rest @ ..] = self.tokens {
+            self.tokens = rest;
+            self.at += 1;
+        }
+        at
+    }
+
+    /// The bytes of the next token, where it is a name.
+    fn bytes(&self) -> &'a [u8]
+        ensures { IsTrue (spec.is_name (spec.next self.now)) → result.now ≡ spec.bytes_of self.now }
+    {
+        match self.tokens {
+            [first, ..] => &self.source[first.start as usize..first.end as usize],
+            [] => &[],
+        }
+    }
+
+    pub fn sees(&self, sign: Sign) -> bool
+        ensures { result ≡ spec.is_sign sign (spec.next self.now) }
+    {
+        is_sign(sign, self.peek())
+    }
+
+    pub fn sees_word(&self, word: Word) -> bool
+        ensures { result ≡ spec.is_word word (spec.next self.now) }
+    {
+        is_word(word, self.peek())
+    }
+
+    /// Reads this sign, and answers the number of its token.
+    #[tactic(auto, using(crate::proofs::Cursors::sign_taken, crate::proofs::Cursors::sign_left, crate::proofs::Cursors::some_sign))]
+    pub fn sign(&mut self, sign: Sign) -> Result<u32, Stop>
+        ensures read { Reads (spec.sign sign self.old) result self.new }
+        ensures fewer { OnOk result (length self.new < length self.old) }
+    {
+        if self.sees(sign) {
+            Ok(self.skip())
+        } else {
+            Err(Stop::Fault)
+        }
+    }
+
+    /// Reads this word, and answers the number of its token.
+    #[tactic(auto, using(crate::proofs::Cursors::word_taken, crate::proofs::Cursors::word_left, crate::proofs::Cursors::some_word))]
+    pub fn word(&mut self, word: Word) -> Result<u32, Stop>
+        ensures read { Reads (spec.word word self.old) result self.new }
+        ensures fewer { OnOk result (length self.new < length self.old) }
+    {
+        if self.sees_word(word) {
+            Ok(self.skip())
+        } else {
+            Err(Stop::Fault)
+        }
+    }
+
+    /// Reads a name, with the number of its token.
+    #[tactic(auto, using(crate::proofs::Cursors::name_taken, crate::proofs::Cursors::name_left, crate::proofs::Cursors::some_name))]
+    pub fn name(&mut self) -> Result<(u32, Name), Stop>
+        ensures read { Reads (spec.name self.old) result self.new }
+        ensures fewer { OnOk result (length self.new < length self.old) }
+    {
+        if !is_name(self.peek()) {
+            return Err(Stop::Fault);
+        }
+        let name = Name::from_slice(self.alloc, self.bytes())?;
+        Ok((self.skip(), name))
+    }
+
+    /// Reads a number, with the number of its token.
+    #[tactic(auto, using(crate::proofs::Cursors::number_taken, crate::proofs::Cursors::number_left, crate::proofs::Cursors::some_number))]
+    pub fn number(&mut self) -> Result<(u32, u128), Stop>
+        ensures read { Reads (spec.number self.old) result self.new }
+        ensures fewer { OnOk result (length self.new < length self.old) }
+    {
+        match number_in(self.peek()) {
+            Some(value) => Ok((self.skip(), value)),
+            None => Err(Stop::Fault),
+        }
+    }
+
+    /// Takes this sign, if it comes next.
+    #[tactic(auto, using(crate::proofs::Cursors::sign_eaten, crate::proofs::Takes::leaves_sign, crate::proofs::Cursors::some_sign))]
+    pub fn eat_sign(&mut self, sign: Sign) -> bool
+        ensures read { spec.eat_sign sign self.old ≡ Ok (result, self.new) }
+        ensures fewer { IsTrue result → length self.new < length self.old }
+        ensures kept { result ≡ false → self.new ≡ self.old }
+    {
+        if self.sees(sign) {
+            self.skip();
+            return true;
+        }
+        false
+    }
+
+    /// Takes this word, if it comes next.
+    #[tactic(auto, using(crate::proofs::Cursors::word_eaten, crate::proofs::Takes::leaves_word, crate::proofs::Cursors::some_word))]
+    pub fn eat_word(&mut self, word: Word) -> bool
+        ensures read { spec.eat_word word self.old ≡ Ok (result, self.new) }
+        ensures fewer { IsTrue result → length self.new < length self.old }
+        ensures kept { result ≡ false → self.new ≡ self.old }
+    {
+        if self.sees_word(word) {
+            self.skip();
+            return true;
+        }
+        false
+    }
+}
