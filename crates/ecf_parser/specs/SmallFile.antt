@@ -1,6 +1,6 @@
 -- For now: the files that can be run. They have one object, with one `num` field without an initial value and one method
 -- without parameters that answers `num`, in either order; its body has assignments and returns of sums with `+`.
-use Rattle.std.specs.Prelude.{ℕ, List, [], ◌∷◌, ◌++◌, None}
+use Rattle.std.specs.Prelude.{◌≡◌, ℕ, List, [], ◌∷◌, ◌++◌, None}
 use Rattle.ecf_grammar.specs.declared.tokens.Word.TheVariants as word
 use Rattle.ecf_grammar.specs.declared.tokens.Sign.TheVariants as sign
 use Rattle.ecf_lang.specs.declared.tree.Ty.TheVariants.{Num}
@@ -66,3 +66,7 @@ pub data SpellsSmallFile : Numbered → Tree → Type 0 where
 pub record IsSmallFileOf (lexemes : List Lexeme) (tree : Tree) : Type 0 where
   pub spelled : SpellsSmallFile (numbered 0 lexemes) tree
   pub shallow : IsShallow lexemes (length lexemes)
+
+-- the same lexemes spell one such file at most
+abbrev pub OneSmallTree : Type 0
+OneSmallTree = (lexemes : List Lexeme) (tree other : Tree) → IsSmallFileOf lexemes tree → IsSmallFileOf lexemes other → tree ≡ other

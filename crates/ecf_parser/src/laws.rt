@@ -1,5 +1,6 @@
 //! What holds of the grammar, whoever reads by it.
 
+ghost use Rattle.ecf_parser.specs.SmallFile.{OneSmallTree};
 ghost use Rattle.ecf_grammar.specs.Spells.{OneTree, SomeAnswer, OneAnswer};
 
 /// The grammar leaves no choice: the same tokens spell one tree at most.
@@ -16,4 +17,9 @@ pub fn some_answer()
 /// Tokens have one such answer at most.
 pub fn one_answer()
     ensures { OneAnswer }
+{}
+
+/// The same tokens spell one file of those that can be run at most.
+pub fn one_small_tree()
+    ensures { OneSmallTree }
 {}

@@ -1,0 +1,51 @@
+-- The journal of one transaction.
+use Rattle.std.proofs.Common.{◌≡◌, ◌<◌, ◌-◌, ℕ, zero, suc, List, [], ◌∷◌, All, AllPairs, Option, None, refl, ap, sym, subst, ◌∙◌, arith, length}
+use Rattle.std.proofs.lemmas.List.Sorted.{IsPermutation-refl}
+use Rattle.ecf_lang.specs.declared.run.Run.{Run}
+use Rattle.ecf_lang.specs.declared.run.Step.{Step}
+use Rattle.ecf_lang.specs.declared.receipt.Entry.{Entry}
+use Rattle.ecf_lang.specs.declared.receipt.Receipt.{Receipt}
+use Rattle.ecf_lang.specs.declared.tx.Tx.{Tx}
+use Rattle.ecf_lang.specs.declared.typed.Typed.{Typed}
+use Rattle.ecf_lang.specs.Genesis.{genesis}
+use Rattle.ecf_lang.specs.Store.{Store, with_writes}
+use Rattle.ecf_lang.specs.Running.{State, Halt, Reverts, RunsOut, Reached, Gives, Halts}
+use Rattle.ecf_lang.specs.Meaning.{run, recorded, ran, Ran, calls_of, fresh}
+use Rattle.ecf_texts.specs.Journal.{journal_text}
+use Rattle.ecf_verdicts.specs.Journals.{IsLegal, along, places, submitter_at}
+use Rattle.ecf_verdicts.specs.Receipts.{answered, receipt_of, receipt_on, kept, next, serial_from}
+use Rattle.ecf_verdicts.specs.Verdicts.{Verdict, Approved, verdict}
+use Rattle.ecf_verdicts.proofs.Single.{single_approved}
+use Rattle.ecf_verdicts.proofs.SerialProved.{vetoed_where_not_free}
+use Rattle.ecf_host.specs.Journals.{IsJournal}
+
+-- the store that a run of one invocation leaves is the one before it with its writes
+settled : (store : Store) (limit : ℕ) (reached : Reached ℕ) → (let a : Ran = ran store limit reached in All (λ (s : Step). s.inv ≡ 0) a.steps → kept (receipt_of a.outcome a.fuel a.steps) store a.store ≡ with_writes store a.writes)
+settled store limit (Gives value state) one =
+    ap (λ v. kept (answered value (limit - state.fuel) v) store (with_writes store state.written)) (single_approved state.steps 0 one)
+settled store limit (Halts (Reverts cause) state) one = refl
+settled store limit (Halts RunsOut state) one = refl
+
+next_is : (typed : Typed) (store : Store) (tx : Tx) → All (λ (s : Step). s.inv ≡ 0) (run typed store tx).steps → next typed store tx ≡ with_writes store (run typed store tx).writes
+unfolding next receipt_on run
+next_is typed store tx one = settled store tx.fuel (calls_of typed store tx.calls (fresh tx.fuel)) one
+
+-- one transaction alone is in order
+alone_legal : (tx : Tx) → IsLegal (tx ∷ []) (0 ∷ [])
+alone_legal tx = record {
+  each_once = IsPermutation-refl (0 ∷ []);
+  in_turn = λ i j d before within. absurd (omega arith);
+}
+
+-- the text of a run's entry and fields is the journal of its transaction
+pub journal_is : (typed : Typed) (tx : Tx) (r : Run) (text : List ℕ) → genesis typed ≡ [] → r ≡ recorded (run typed [] tx) → All (λ (s : Step). s.inv ≡ 0) r.steps →
+    text ≡ journal_text typed (tx ∷ []) (record { row = 0; receipt = receipt_of r.outcome r.fuel r.steps } ∷ []) None (with_writes [] r.writes) → IsJournal typed (tx ∷ []) None text
+unfolding serial_from receipt_on
+journal_is typed tx r text blank is one text_is = record {
+  places = 0 ∷ [];
+  legal = alone_legal tx;
+  serial = text_is ∙ (ap (λ (q : Run). journal_text typed (tx ∷ []) (record { row = 0; receipt = receipt_of q.outcome q.fuel q.steps } ∷ []) None (with_writes [] q.writes)) is
+      ∙ (ap (λ store. journal_text typed (tx ∷ []) (record { row = 0; receipt = receipt_on typed [] tx } ∷ []) None store) (sym (next_is typed [] tx (subst (λ (q : Run). All (λ (s : Step). s.inv ≡ 0) q.steps) is one)))
+      ∙ ap (λ store. journal_text typed (tx ∷ []) (record { row = 0; receipt = receipt_on typed store tx } ∷ []) None (next typed store tx)) (sym blank)));
+  vetoes = (vetoed_where_not_free typed (genesis typed) tx, tt);
+}

@@ -1,0 +1,9 @@
+pub mod Words
+pub mod Refusals
+pub mod Halts
+pub mod Contract
+pub mod Stream
+pub mod Asked
+pub mod Journals
+pub mod Answers
+pub mod Complete

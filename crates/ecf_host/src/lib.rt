@@ -1,0 +1,17 @@
+//! The host: reads a contract and a stream, runs the transactions and writes the journal.
+#![tactic(auto)]
+
+mod contract;
+mod deliver;
+mod halt;
+mod journal;
+mod refusal;
+mod store;
+mod stream;
+mod top;
+mod words;
+
+pub use top::{host, tool};
+
+#[cfg(test)]
+mod tests;

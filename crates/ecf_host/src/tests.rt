@@ -1,0 +1,174 @@
+//! The top call over objects in memory.
+
+use crate::host;
+use ecf_edge::{MemShelf, MemSink, MemSource};
+use std::alloc::{AllocError, Global};
+
+const COUNTER: &str = "object Counter { num n; method bump(): num { n = n + 1; return n; } }";
+
+const JOURNAL: &str = "1 1.1 Counter bump 100 -> committed 1 fuel 14\nend\nCounter.n = 1\n";
+
+// What a call is made over: the stream, how many bytes a read gives and a write takes, and which fetch, read, write and
+// write of a note fail, by number; 0 for none.
+#[derive(Clone, Copy)]
+struct Case {
+    stream: &'static str,
+    step: usize,
+    fetch: u64,
+    read: u64,
+    write: u64,
+    note: u64,
+}
+
+// What a call answered and left.
+#[derive(Drop)]
+struct Left {
+    status: u8,
+    out: Vec<u8>,
+    note: Vec<u8>,
+}
+
+fn failing(alloc: Global, number: u64) -> Result<Vec<u64>, AllocError> {
+    Ok(vec![in alloc; number]?)
+}
+
+fn called(rt: &HostRuntime, file: &str, case: Case) -> Result<Left, AllocError> {
+    let alloc = rt.alloc();
+    let step = case.step.max(1);
+    let words = vec![in alloc;
+        String::from_str(alloc, "run")?,
+        String::from_str(alloc, file)?,
+    ]?;
+    let files = vec![in alloc;
+        (
+            String::from_str(alloc, "c.ecf")?,
+            Vec::from_slice(alloc, COUNTER.as_bytes())?
+        ),
+    ]?;
+    let mut shelf = MemShelf::new(files, failing(alloc, case.fetch)?);
+    let bytes = Vec::from_slice(alloc, case.stream.as_bytes())?;
+    let mut input = MemSource::new(bytes, step, failing(alloc, case.read)?);
+    let mut out = MemSink::new(alloc, step, failing(alloc, case.write)?);
+    let mut note = MemSink::new(alloc, step, failing(alloc, case.note)?);
+    let status = host(
+        rt,
+        alloc,
+        words.as_slice(),
+        &mut shelf,
+        &mut input,
+        &mut out,
+        &mut note,
+    );
+    Ok(Left {
+        status,
+        out: Vec::from_slice(alloc, out.held())?,
+        note: Vec::from_slice(alloc, note.held())?,
+    })
+}
+
+const LINE: &str = "1 Counter bump 100\n";
+
+fn over(stream: &'static str, step: usize) -> Case {
+    Case {
+        stream,
+        step,
+        fetch: 0,
+        read: 0,
+        write: 0,
+        note: 0,
+    }
+}
+
+#[test]
+fn writes_the_journal_in_any_pieces(rt: HostRuntime) -> Result<(), AllocError> {
+    for step in [1, 2, 3, 7, 1000] {
+        let left = called(&rt, "c.ecf", over(LINE, step))?;
+        assert_eq!(rt; left.status, 0);
+        assert_eq!(rt; left.out.as_slice(), JOURNAL.as_bytes());
+        assert_eq!(rt; left.note.len(), 0);
+    }
+    Ok(())
+}
+
+#[test]
+fn tells_why_nothing_was_run(rt: HostRuntime) -> Result<(), AllocError> {
+    let rows = [
+        ("d.ecf", over(LINE, 9), 4, "contract: missing\n"),
+        ("-c", over(LINE, 9), 1, "words refused\n"),
+        (
+            "c.ecf",
+            Case {
+                fetch: 1,
+                ..over(LINE, 9)
+            },
+            4,
+            "contract: read fault\n",
+        ),
+        ("c.ecf", over("", 9), 3, "stream: unbuilt\n"),
+        (
+            "c.ecf",
+            over("1 Counter jump 100\n", 9),
+            3,
+            "stream: unbuilt\n",
+        ),
+        (
+            "c.ecf",
+            Case {
+                read: 1,
+                ..over(LINE, 9)
+            },
+            4,
+            "stream: read fault\n",
+        ),
+        (
+            "c.ecf",
+            Case {
+                read: 3,
+                ..over(LINE, 9)
+            },
+            4,
+            "stream: read fault\n",
+        ),
+        (
+            "c.ecf",
+            Case {
+                read: 4,
+                ..over(LINE, 9)
+            },
+            4,
+            "stream: read fault\n",
+        ),
+    ];
+    for (file, case, status, note) in rows {
+        let left = called(&rt, file, case)?;
+        assert_eq!(rt; left.status, status);
+        assert_eq!(rt; left.note.as_slice(), note.as_bytes());
+        assert_eq!(rt; left.out.len(), 0);
+    }
+    Ok(())
+}
+
+#[test]
+fn stops_at_a_write_that_fails(rt: HostRuntime) -> Result<(), AllocError> {
+    let left = called(
+        &rt,
+        "c.ecf",
+        Case {
+            write: 2,
+            ..over(LINE, 8)
+        },
+    )?;
+    assert_eq!(rt; left.status, 5);
+    assert_eq!(rt; left.out.as_slice(), b"1 1.1 Co".as_slice());
+    let left = called(
+        &rt,
+        "d.ecf",
+        Case {
+            note: 2,
+            ..over(LINE, 8)
+        },
+    )?;
+    assert_eq!(rt; left.status, 5);
+    assert_eq!(rt; left.note.as_slice(), b"contract".as_slice());
+    Ok(())
+}
