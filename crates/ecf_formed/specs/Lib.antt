@@ -1,0 +1,3 @@
+pub mod Typing
+pub mod WellFormed
+pub mod Cases
