@@ -172,3 +172,68 @@ fn stops_at_a_write_that_fails(rt: HostRuntime) -> Result<(), AllocError> {
     assert_eq!(rt; left.note.as_slice(), b"contract".as_slice());
     Ok(())
 }
+
+#[test]
+fn answers_at_each_read_that_fails(rt: HostRuntime) -> Result<(), AllocError> {
+    // One byte a read, so that the stream's end comes with the read behind its last byte.
+    let reads = LINE.len() as u64 + 1;
+    for number in 1..reads + 1 {
+        let left = called(
+            &rt,
+            "c.ecf",
+            Case {
+                read: number,
+                ..over(LINE, 1)
+            },
+        )?;
+        assert_eq!(rt; left.status, 4);
+        assert_eq!(rt; left.note.as_slice(), b"stream: read fault\n".as_slice());
+        assert_eq!(rt; left.out.len(), 0);
+    }
+    let left = called(
+        &rt,
+        "c.ecf",
+        Case {
+            read: reads + 1,
+            fetch: 2,
+            ..over(LINE, 1)
+        },
+    )?;
+    assert_eq!(rt; left.status, 0);
+    Ok(())
+}
+
+#[test]
+fn answers_at_each_write_that_fails(rt: HostRuntime) -> Result<(), AllocError> {
+    let journal = JOURNAL.as_bytes();
+    for number in 1..JOURNAL.len() as u64 + 1 {
+        let left = called(
+            &rt,
+            "c.ecf",
+            Case {
+                write: number,
+                ..over(LINE, 1)
+            },
+        )?;
+        assert_eq!(rt; left.status, 5);
+        assert_eq!(rt; left.out.len() as u64 + 1, number);
+        assert!(rt; journal.starts_with(left.out.as_slice()));
+        assert_eq!(rt; left.note.len(), 0);
+    }
+    let missing = b"contract: missing\n".as_slice();
+    for number in 1..missing.len() as u64 + 1 {
+        let left = called(
+            &rt,
+            "d.ecf",
+            Case {
+                note: number,
+                ..over(LINE, 1)
+            },
+        )?;
+        assert_eq!(rt; left.status, 5);
+        assert_eq!(rt; left.note.len() as u64 + 1, number);
+        assert!(rt; missing.starts_with(left.note.as_slice()));
+        assert_eq!(rt; left.out.len(), 0);
+    }
+    Ok(())
+}
