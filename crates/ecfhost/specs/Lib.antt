@@ -1,0 +1,2 @@
+pub mod FileShelf
+pub mod Stream
