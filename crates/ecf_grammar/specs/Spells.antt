@@ -1,4 +1,4 @@
--- What it means that lexemes spell a contract file: a case for each line of the grammar. Of one line the parts stand one behind the other.
+-- What it means that lexemes spell a contract file: a case for each line of the grammar. The parts of a line stand one behind the other.
 use Rattle.std.specs.Prelude.{◌≡◌, ℕ, ◌+◌, ◌<◌, ◌≤◌, length, take, true, false, List, [], ◌∷◌, ◌++◌, ◌⊎◌, Option, Some, None}
 use Rattle.ecf_grammar.specs.declared.tokens.Word.{Word}
 use Rattle.ecf_grammar.specs.declared.tokens.Word.TheVariants as word
@@ -269,13 +269,13 @@ Spells lexemes tree = SpellsFile (numbered 0 lexemes) tree
 abbrev pub BeginsFile : List Lexeme → Type 0
 BeginsFile front = (more : List Lexeme) × (tree : Tree) × Spells (front ++ more) tree
 
--- no file begins with the lexemes through that token; through the end, they are no file
+-- no file begins with the lexemes up to that token and with it; where the token is the end, the lexemes are no file
 pub record EndsFiles (lexemes : List Lexeme) (token : ℕ) : Type 0 where
   pub within : token ≤ length lexemes
   pub none : token < length lexemes → ¬ BeginsFile (take (token + 1) lexemes)
   pub over : token ≡ length lexemes → (tree : Tree) → ¬ Spells lexemes tree
 
--- the first token out of place: those before it begin some file, and with it none does
+-- the first token out of place: those before it begin some file, with it none does, and none of these is nested too deep
 pub record IsOutOfPlace (lexemes : List Lexeme) (token : ℕ) : Type 0 where
   pub before : BeginsFile (take token lexemes)
   pub with_it : EndsFiles lexemes token

@@ -1,4 +1,4 @@
-//! The grammar of contract files: so far their tokens, and what it means that a text reads as a list of tokens.
+//! The grammar of contract files: tokens, what it means that a text reads as a list of them, and that they spell a tree.
 #![tactic(auto)]
 
 mod laws;
