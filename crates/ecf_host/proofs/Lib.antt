@@ -3,5 +3,5 @@ pub mod Small
 pub mod Lines
 pub mod OneInvocation
 pub mod Settled
-pub mod Unbuilt
 pub mod Complete
+pub mod Faulted

@@ -1,5 +1,5 @@
 -- What is known of a stream of one line.
-use Rattle.std.proofs.Common.{◌≡◌, ◌<◌, ◌≤◌, ◌++◌, ℕ, List, [], ◌∷◌, Option, Some, None, IfSome, length, ap, sym, subst, arith, inl, inr, length-append}
+use Rattle.std.proofs.Common.{◌≡◌, ◌<◌, ◌≤◌, ℕ, List, [], ◌∷◌, Option, Some, None, IfSome, length, ap, sym, subst, arith, inl, inr, length-append}
 use Rattle.std.specs.Str.Lines.{strip_carriage_return}
 use Rattle.ecf_lang.specs.declared.typed.Typed.{Typed}
 use Rattle.ecf_lang.specs.declared.tx.Tx.{Tx}
@@ -10,7 +10,7 @@ use Rattle.ecf_texts.specs.Line.{IsNumbered}
 use Rattle.ecf_texts.specs.OneLine.{IsOneLine}
 use Rattle.ecf_texts.specs.Entries.{OneCall}
 use Rattle.ecf_texts.proofs.LinesFit.{lines_fit, lines_call_once}
-use Rattle.ecf_host.specs.Stream.{stream_limit, IsNoLine, IsStreamFault}
+use Rattle.ecf_host.specs.Stream.{stream_limit, IsStreamFault}
 use Rattle.ecf_host.specs.declared.refusal.Refusal.TheVariants.{StreamUnbuilt}
 
 -- its transaction fits the contract

@@ -1,5 +1,5 @@
 -- Runs of one invocation do no harm.
-use Rattle.std.proofs.Common.{◌≡◌, ℕ, suc, List, [], ◌∷◌, All, ap, sym, subst, length, refl, arith}
+use Rattle.std.proofs.Common.{◌≡◌, ℕ, List, [], ◌∷◌, All, ap, sym, subst, length, refl, arith}
 use Rattle.ecf_lang.specs.declared.run.Step.{Step}
 use Rattle.ecf_lang.specs.declared.run.Run.{Run}
 use Rattle.ecf_lang.specs.declared.run.Outcome.TheVariants.{Answer}

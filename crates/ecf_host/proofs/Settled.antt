@@ -1,20 +1,17 @@
 -- The journal of one transaction.
-use Rattle.std.proofs.Common.{◌≡◌, ◌<◌, ◌-◌, ℕ, zero, suc, List, [], ◌∷◌, All, AllPairs, Option, None, refl, ap, sym, subst, ◌∙◌, arith, length}
+use Rattle.std.proofs.Common.{◌≡◌, ◌-◌, ℕ, List, [], ◌∷◌, All, None, refl, ap, sym, subst, ◌∙◌, arith}
 use Rattle.std.proofs.lemmas.List.Sorted.{IsPermutation-refl}
 use Rattle.ecf_lang.specs.declared.run.Run.{Run}
 use Rattle.ecf_lang.specs.declared.run.Step.{Step}
-use Rattle.ecf_lang.specs.declared.receipt.Entry.{Entry}
-use Rattle.ecf_lang.specs.declared.receipt.Receipt.{Receipt}
 use Rattle.ecf_lang.specs.declared.tx.Tx.{Tx}
 use Rattle.ecf_lang.specs.declared.typed.Typed.{Typed}
 use Rattle.ecf_lang.specs.Genesis.{genesis}
 use Rattle.ecf_lang.specs.Store.{Store, with_writes}
-use Rattle.ecf_lang.specs.Running.{State, Halt, Reverts, RunsOut, Reached, Gives, Halts}
+use Rattle.ecf_lang.specs.Running.{Reverts, RunsOut, Reached, Gives, Halts}
 use Rattle.ecf_lang.specs.Meaning.{run, recorded, ran, Ran, calls_of, fresh}
 use Rattle.ecf_texts.specs.Journal.{journal_text}
-use Rattle.ecf_verdicts.specs.Journals.{IsLegal, along, places, submitter_at}
+use Rattle.ecf_verdicts.specs.Journals.{IsLegal}
 use Rattle.ecf_verdicts.specs.Receipts.{answered, receipt_of, receipt_on, kept, next, serial_from}
-use Rattle.ecf_verdicts.specs.Verdicts.{Verdict, Approved, verdict}
 use Rattle.ecf_verdicts.proofs.Single.{single_approved}
 use Rattle.ecf_verdicts.proofs.SerialProved.{vetoed_where_not_free}
 use Rattle.ecf_host.specs.Journals.{IsJournal}

@@ -1,19 +1,16 @@
 -- Small contracts can be run, and the lines for them read.
-use Rattle.std.proofs.Common.{◌≡◌, ℕ, zero, suc, Bool, true, false, ◌&&◌, ◌<◌, List, [], ◌∷◌, All, refl, ap, sym, subst, ◌∙◌, arith, length}
-use Rattle.std.specs.List.{list_all}
+use Rattle.std.proofs.Common.{◌≡◌, ℕ, zero, suc, Bool, true, ◌&&◌, List, [], ◌∷◌, All, ap, sym, subst, ◌∙◌, arith}
 use Rattle.std.proofs.lemmas.List.Sums.{list_all-from_AllPass}
 use Rattle.ecf_lang.specs.declared.tree.Op.{Op}
 use Rattle.ecf_lang.specs.declared.typed.Typed.{Typed}
 use Rattle.ecf_lang.specs.declared.typed.Place.TheVariants as place
-use Rattle.ecf_lang.specs.declared.typed.Assignee.TheVariants as assignee
 use Rattle.ecf_lang.specs.declared.typed.TypedExpr.{TypedExpr}
-use Rattle.ecf_lang.specs.declared.typed.TypedStmt.{TypedStmt, TypedStmt-F, out-TypedStmt}
-use Rattle.ecf_lang.specs.declared.typed.TypedBlock.{TypedBlock, TypedBlock-F, roll-TypedBlock, out-roll-TypedBlock, out-TypedBlock}
-use Rattle.ecf_small.specs.Small.{one_method}
+use Rattle.ecf_lang.specs.declared.typed.TypedStmt.{TypedStmt, TypedStmt-F}
+use Rattle.ecf_lang.specs.declared.typed.TypedBlock.{TypedBlock, TypedBlock-F, roll-TypedBlock, out-roll-TypedBlock}
 use Rattle.ecf_small.proofs.Form.{has_form, begins_empty}
 use Rattle.ecf_lang.specs.Genesis.{genesis}
 use Rattle.ecf_host.specs.Contract.{IsContract}
-use Rattle.ecf_small.specs.Form.{IsAdded, HasSums, IsSmallExpr, SmallLayer, IsSmallStmt, IsSmall}
+use Rattle.ecf_small.specs.Form.{IsAdded, HasSums, SmallLayer, IsSmallStmt, IsSmall}
 use Rattle.ecf_interp.specs.Built.{is_built_expr, is_built_part, is_built_stmt, is_field, is_add, IsBuilt, IsBuiltStmt, IsBuiltBlock, IsBuiltObject}
 use Rattle.ecf_interp.proofs.BuiltForms.{built_number, built_name, built_sum}
 use Rattle.ecf_texts.specs.Line.{IsNumbered}

@@ -6,7 +6,7 @@ use Rattle.ecf_edge.specs.Count.{Rose}
 use Rattle.ecf_edge.specs.Shelf.{Files, HoldsNoneUnder, HoldsMoreUnder}
 use Rattle.ecf_edge.specs.Sink.{Grew, GrewByPrefix}
 use Rattle.ecf_host.specs.declared.refusal.Refusal.{Refusal}
-use Rattle.ecf_host.specs.declared.refusal.Refusal.TheVariants.{Words, TooLong, BadByte, WideNumber, TooManyTokens, Unbuilt, StreamUnbuilt, Missing, ReadFault, StreamReadFault}
+use Rattle.ecf_host.specs.declared.refusal.Refusal.TheVariants.{Words, TooLong, StreamUnbuilt, Missing, ReadFault, StreamReadFault}
 use Rattle.ecf_host.specs.Asked.{Asked, OnText, IsAccepted, IsStream, IsNoStream}
 use Rattle.ecf_host.specs.Contract.{contract_limit, IsRefusedText}
 use Rattle.ecf_host.specs.Journals.{IsJournal}

@@ -6,10 +6,10 @@ use Rattle.ecf_edge.specs.Shelf.{Files, HoldsNoneUnder, HoldsMoreUnder}
 use Rattle.ecf_grammar.specs.declared.tokens.Token.{Token}
 use Rattle.ecf_grammar.specs.Reading.{Reads, IsFaulty, Fault}
 use Rattle.ecf_grammar.specs.Lexemes.{Lexeme, lexemes_of}
-use Rattle.ecf_parser.specs.SmallFile.{IsSmallFileOf}
+use Rattle.ecf_grammar.specs.Spells.{IsFileOf, IsOutOfPlace, IsTooDeep}
 use Rattle.ecf_small.specs.Small.{typed_of}
 use Rattle.ecf_host.specs.declared.refusal.Refusal.{Refusal}
-use Rattle.ecf_host.specs.declared.refusal.Refusal.TheVariants.{Words, TooLong, BadByte, WideNumber, TooManyTokens, Unbuilt, StreamUnbuilt, Missing, ReadFault, StreamReadFault}
+use Rattle.ecf_host.specs.declared.refusal.Refusal.TheVariants.{TooLong, BadByte, WideNumber, TooManyTokens, Syntax, TooDeep, Unbuilt, Missing, ReadFault}
 
 -- the most bytes of a contract file
 abbrev pub contract_limit : ℕ
@@ -21,9 +21,9 @@ pub record OnLexemes (text : List ℕ) (P : List Lexeme → Type 0) : Type 0 whe
   pub reads : Reads text tokens
   pub holds : P (lexemes_of text tokens)
 
--- a text is spelled by this tree, of the form that can be run so far
+-- a text spells this tree
 abbrev pub HasTree : List ℕ → Tree → Type 0
-HasTree text tree = OnLexemes text (λ lexemes. IsSmallFileOf lexemes tree)
+HasTree text tree = OnLexemes text (λ lexemes. IsFileOf lexemes tree)
 
 -- a text is accepted as this contract
 pub record IsContract (text : List ℕ) (typed : Typed) : Type 0 where
@@ -31,15 +31,19 @@ pub record IsContract (text : List ℕ) (typed : Typed) : Type 0 where
   pub has_tree : HasTree text tree
   pub builds : typed_of tree ≡ Some typed
 
--- a text reads as tokens that spell no contract that can be run so far
-abbrev pub IsUnbuilt : List ℕ → Type 0
-IsUnbuilt text = OnLexemes text (λ lexemes. (tree : Tree) → IsSmallFileOf lexemes tree → typed_of tree ≡ None)
+-- a text spells a tree that is no contract of the kind that can be run so far
+pub record IsUnbuilt (text : List ℕ) : Type 0 where
+  pub tree : Tree
+  pub has_tree : HasTree text tree
+  pub none : typed_of tree ≡ None
 
 -- a text is refused for this cause
 abbrev pub IsRefusedText : List ℕ → Refusal → Type 0
 IsRefusedText text (BadByte at) = IsFaulty text (Fault.BadByte at)
 IsRefusedText text (WideNumber at) = IsFaulty text (Fault.WideNumber at)
 IsRefusedText text (TooManyTokens at) = IsFaulty text (Fault.TooManyTokens at)
+IsRefusedText text (Syntax token) = OnLexemes text (λ lexemes. IsOutOfPlace lexemes token)
+IsRefusedText text (TooDeep token) = OnLexemes text (λ lexemes. IsTooDeep lexemes token)
 IsRefusedText text Unbuilt = IsUnbuilt text
 IsRefusedText text _ = ⊥
 

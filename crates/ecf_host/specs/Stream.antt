@@ -5,7 +5,7 @@ use Rattle.ecf_lang.specs.declared.tx.Tx.{Tx}
 use Rattle.ecf_edge.specs.Source.{IsAtEnd}
 use Rattle.ecf_texts.specs.OneLine.{IsOneLine}
 use Rattle.ecf_host.specs.declared.refusal.Refusal.{Refusal}
-use Rattle.ecf_host.specs.declared.refusal.Refusal.TheVariants.{Words, StreamUnbuilt, StreamReadFault}
+use Rattle.ecf_host.specs.declared.refusal.Refusal.TheVariants.{StreamUnbuilt, StreamReadFault}
 
 -- the most bytes of a stream
 abbrev pub stream_limit : ℕ

@@ -1,20 +1,21 @@
 //! The contract file: fetched from the shelf, cut into tokens, read as a tree and built.
 
-ghost use Rattle.std.specs.Prelude.{◌≡◌, ◌≤◌, IfOk, IfErr, IfSome, IfNone, length};
+ghost use Rattle.std.specs.Prelude.{◌≤◌, IfOk, IfErr, IfSome, length};
 ghost use Rattle.ecf_edge.specs.Count.{Rose};
 ghost use Rattle.ecf_edge.specs.Shelf.{HoldsUnder};
-ghost use Rattle.ecf_host.specs.Contract.{contract_limit, IsContract, IsUnbuilt, IsRefusedText, IsFetchFault};
+ghost use Rattle.ecf_host.specs.Contract.{contract_limit, HasTree, IsContract, IsRefusedText, IsFetchFault};
 ghost use Rattle.ecf_grammar.specs.Reading.{Reads};
 ghost use Rattle.ecf_host.specs.Halts.{refusal_in};
 
 use crate::halt::Halt;
 use crate::refusal::Refusal;
 use ecf_edge::{Fetch, Shelf};
+use ecf_lang::tree::Tree;
 use ecf_lang::typed::Typed;
 use ecf_lexer::{LexFault, Token, lex};
-use ecf_parser::read_small;
+use ecf_parser::{SyntaxFault, parse};
 use ecf_small::build;
-use std::alloc::{AllocError, Global};
+use std::alloc::Global;
 
 /// The most bytes of a contract file.
 const MAX_CONTRACT_BYTES: usize = 1_048_576;
@@ -45,7 +46,8 @@ pub fn contract_of(alloc: Global, text: &[u8]) -> Result<Typed, Halt>
     ensures refused { IfErr result (λ halt. IfSome (refusal_in halt) (IsRefusedText text.now)) }
 {
     let tokens = tokens_of(alloc, text)?;
-    match typed_from(alloc, text, tokens.as_slice())? {
+    let tree = tree_of(alloc, text, tokens.as_slice())?;
+    match build(alloc, &tree)? {
         Some(typed) => Ok(typed),
         None => Err(Halt::Refused(Refusal::Unbuilt)),
     }
@@ -66,18 +68,16 @@ fn tokens_of(alloc: Global, text: &[u8]) -> Result<Vec<Token>, Halt>
     }
 }
 
-// The contract that the tokens of a text spell, if they spell one that can be run so far.
-#[tactic(auto, using(crate::proofs::Unbuilt::no_contract, crate::proofs::Unbuilt::no_tree))]
-fn typed_from(alloc: Global, text: &[u8], tokens: &[Token]) -> Result<Option<Typed>, AllocError>
+// The tree that the tokens of a text spell.
+fn tree_of(alloc: Global, text: &[u8], tokens: &[Token]) -> Result<Tree, Halt>
     requires { Reads text.now tokens.now }
-    ensures some { IfOk result (λ built. IfSome built (λ typed. IsContract text.now typed)) }
-    ensures none { IfOk result (λ built. IfNone built (IsUnbuilt text.now)) }
+    ensures tree { IfOk result (λ tree. HasTree text.now tree) }
+    ensures refused { IfErr result (λ halt. IfSome (refusal_in halt) (IsRefusedText text.now)) }
 {
-    let Some(tree) = read_small(alloc, text, tokens)? else {
-        return Ok(None);
-    };
-    match build(alloc, &tree)? {
-        Some(typed) => Ok(Some(typed)),
-        None => Ok(None),
+    match parse(alloc, text, tokens) {
+        Ok(tree) => Ok(tree),
+        Err(SyntaxFault::At { token }) => Err(Halt::Refused(Refusal::Syntax { token })),
+        Err(SyntaxFault::TooDeep { token }) => Err(Halt::Refused(Refusal::TooDeep { token })),
+        Err(SyntaxFault::NoMemory) => Err(Halt::NoMemory),
     }
 }

@@ -18,6 +18,10 @@ pub enum Refusal {
     WideNumber { at: u32 },
     /// The contract file has more tokens than its limit.
     TooManyTokens { at: u32 },
+    /// A token of the contract file is the first out of place.
+    Syntax { token: u32 },
+    /// A token of the contract file is the first nested too deep.
+    TooDeep { token: u32 },
     /// The contract is not of the kind that can be run so far.
     Unbuilt,
     /// The stream isn't one transaction of the kind that can be read so far.
@@ -41,6 +45,8 @@ impl Refusal {
             | Refusal::BadByte { .. }
             | Refusal::WideNumber { .. }
             | Refusal::TooManyTokens { .. }
+            | Refusal::Syntax { .. }
+            | Refusal::TooDeep { .. }
             | Refusal::Unbuilt => 2,
             Refusal::StreamUnbuilt => 3,
             Refusal::Missing | Refusal::ReadFault | Refusal::StreamReadFault => 4,
@@ -59,6 +65,8 @@ impl Refusal {
             Refusal::TooManyTokens { at } => {
                 format!(in alloc; "contract byte {at}: too many tokens\n")
             }
+            Refusal::Syntax { token } => format!(in alloc; "contract token {token}: syntax\n"),
+            Refusal::TooDeep { token } => format!(in alloc; "contract token {token}: too deep\n"),
             Refusal::Unbuilt => String::from_str(alloc, "contract: unbuilt\n"),
             Refusal::StreamUnbuilt => String::from_str(alloc, "stream: unbuilt\n"),
             Refusal::Missing => String::from_str(alloc, "contract: missing\n"),

@@ -6,12 +6,17 @@ use std::alloc::{AllocError, Global};
 
 const COUNTER: &str = "object Counter { num n; method bump(): num { n = n + 1; return n; } }";
 
+// The last bracket is the 65th.
+const DEEP: &str =
+    "object A { method m(): num { x = (((((((((((((((((((((((((((((((((((((((((((((((((((((((((((((((1";
+
 const JOURNAL: &str = "1 1.1 Counter bump 100 -> committed 1 fuel 14\nend\nCounter.n = 1\n";
 
-// What a call is made over: the stream, how many bytes a read gives and a write takes, and which fetch, read, write and
+// What a call is made over: the contract, the stream, how many bytes a read gives and a write takes, and which fetch, read, write and
 // write of a note fail, by number; 0 for none.
 #[derive(Clone, Copy)]
 struct Case {
+    contract: &'static str,
     stream: &'static str,
     step: usize,
     fetch: u64,
@@ -42,7 +47,7 @@ fn called(rt: &HostRuntime, file: &str, case: Case) -> Result<Left, AllocError> 
     let files = vec![in alloc;
         (
             String::from_str(alloc, "c.ecf")?,
-            Vec::from_slice(alloc, COUNTER.as_bytes())?
+            Vec::from_slice(alloc, case.contract.as_bytes())?
         ),
     ]?;
     let mut shelf = MemShelf::new(files, failing(alloc, case.fetch)?);
@@ -70,6 +75,7 @@ const LINE: &str = "1 Counter bump 100\n";
 
 fn over(stream: &'static str, step: usize) -> Case {
     Case {
+        contract: COUNTER,
         stream,
         step,
         fetch: 0,
@@ -142,6 +148,38 @@ fn tells_why_nothing_was_run(rt: HostRuntime) -> Result<(), AllocError> {
     for (file, case, status, note) in rows {
         let left = called(&rt, file, case)?;
         assert_eq!(rt; left.status, status);
+        assert_eq!(rt; left.note.as_slice(), note.as_bytes());
+        assert_eq!(rt; left.out.len(), 0);
+    }
+    Ok(())
+}
+
+#[test]
+fn tells_why_a_contract_is_refused(rt: HostRuntime) -> Result<(), AllocError> {
+    let rows = [
+        ("object A { num x = $1; }", "contract byte 19: bad byte\n"),
+        (
+            "object A { num x = 340282366920938463463374607431768211456; }",
+            "contract byte 19: wide number\n",
+        ),
+        ("", "contract token 0: syntax\n"),
+        (
+            "object A { method m(): num { else { } } }",
+            "contract token 10: syntax\n",
+        ),
+        (DEEP, "contract token 74: too deep\n"),
+        (
+            "object A { flag f; method m(): num { return 0; } }",
+            "contract: unbuilt\n",
+        ),
+    ];
+    for (contract, note) in rows {
+        let case = Case {
+            contract,
+            ..over(LINE, 9)
+        };
+        let left = called(&rt, "c.ecf", case)?;
+        assert_eq!(rt; left.status, 2);
         assert_eq!(rt; left.note.as_slice(), note.as_bytes());
         assert_eq!(rt; left.out.len(), 0);
     }

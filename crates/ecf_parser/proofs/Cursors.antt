@@ -1,5 +1,5 @@
 -- What a cursor's steps make of the readers of single lexemes.
-use Rattle.std.proofs.Common.{◌≡◌, ℕ, ◌+◌, ◌-◌, ◌<◌, Bool, true, false, cond, List, [], ◌∷◌, length, Option, Some, None, IsSome, Ok, Err, refl, sym, subst, ◌∙◌, ap, map, take, drop, get_or, arith}
+use Rattle.std.proofs.Common.{◌≡◌, ℕ, ◌+◌, ◌-◌, ◌<◌, true, false, cond, List, [], ◌∷◌, length, Option, Some, None, IsSome, Ok, Err, refl, sym, subst, ◌∙◌, ap, take, drop, get_or, arith}
 use Rattle.std.specs.Prelude.{slice_range}
 use Rattle.ecf_grammar.specs.declared.tokens.Kind.{Kind}
 use Rattle.ecf_grammar.specs.declared.tokens.Kind.TheVariants as kind
@@ -7,9 +7,9 @@ use Rattle.ecf_grammar.specs.declared.tokens.Token.{Token}
 use Rattle.ecf_grammar.specs.declared.tokens.Word.{Word}
 use Rattle.ecf_grammar.specs.declared.tokens.Sign.{Sign}
 use Rattle.ecf_lang.specs.declared.tree.Op.{Op}
-use Rattle.ecf_grammar.specs.Lexemes.{Lexeme, Numbered, lexeme, numbered, lexemes_of}
+use Rattle.ecf_grammar.specs.Lexemes.{Numbered, lexeme, numbered, lexemes_of}
 use Rattle.ecf_grammar.specs.Lexemes.Lexeme.{NameOf, NumberOf, WordOf, SignOf}
-use Rattle.ecf_parser.specs.Parsers.{next, number_of, behind, is_sign, is_word, kind_of, is_name, number_in, bytes_in, bytes_of, sign, word, name, number, eat_sign, eat_word, op_at}
+use Rattle.ecf_parser.specs.Parsers.{next, number_of, behind, is_sign, is_word, kind_of, is_name, number_in, bytes_in, bytes_of, sign, word, name, number, eat_sign, eat_word, op_at, took, operator}
 
 pub ahead_len : (at : ℕ) (source : List ℕ) (tokens : List Token) → length (numbered at (lexemes_of source tokens)) ≡ length tokens
 ahead_len at source [] = refl
@@ -94,6 +94,10 @@ sign_eaten s ls h = ap (λ b. cond b (Ok (true, behind ls)) (Ok (false, ls))) h
 pub word_eaten : (w : Word) (ls : Numbered) → is_word w (next ls) ≡ true → eat_word w ls ≡ Ok (true, behind ls)
 unfolding eat_word
 word_eaten w ls h = ap (λ b. cond b (Ok (true, behind ls)) (Ok (false, ls))) h
+
+pub op_eaten : (table : Sign → Option Op) (ls : Numbered) (o : Op) → op_at table (next ls) ≡ Some o → operator table ls ≡ Ok (Some o, behind ls)
+unfolding operator
+op_eaten table ls o h = ap (λ x. took x ls) h
 
 pub bytes_ahead : (k : Kind) (bytes : List ℕ) → is_name (Some (kind_of (lexeme k bytes))) ≡ true → bytes_in (lexeme k bytes) ≡ bytes
 unfolding is_name

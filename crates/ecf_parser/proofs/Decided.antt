@@ -1,78 +1,36 @@
 -- Lexemes have one answer, and one alone.
-use Rattle.std.proofs.Common.{◌≡◌, ℕ, zero, suc, ◌+◌, ◌-◌, ◌<◌, ◌≤◌, Bool, true, false, List, [], ◌∷◌, ◌++◌, ◌⊎◌, inl, inr, length, take, drop, get_or, count_by, leb, Ok, Err, refl, sym, ap, subst, ◌∙◌, arith, append_assoc}
-use Rattle.std.proofs.lemmas.List.Sums.{count_by_more_yes, count_by_more_no}
+use Rattle.std.proofs.Common.{◌≡◌, ℕ, zero, suc, ◌+◌, ◌-◌, ◌<◌, ◌≤◌, Bool, true, false, List, ◌⊎◌, inl, inr, length, take, leb, Ok, Err, refl, sym, subst, arith}
 use Rattle.std.proofs.lemmas.Bool.Decides.{nat_tests}
 use Rattle.ecf_lang.specs.declared.tree.Tree.{Tree}
 use Rattle.ecf_grammar.specs.Lexemes.{Lexeme, Numbered, numbered}
-use Rattle.ecf_grammar.specs.Lexemes.Lexeme.{NumberOf}
-use Rattle.ecf_grammar.specs.Nesting.{opens, closes, nesting, nesting_limit, IsShallow}
+use Rattle.ecf_grammar.specs.Nesting.{nesting, nesting_limit, IsShallow}
 use Rattle.ecf_grammar.specs.Spells.{Spells, BeginsFile, EndsFiles, IsOutOfPlace, IsTooDeep, IsFileOf, SomeAnswer, OneAnswer}
+use Rattle.ecf_parser.specs.FirstDeep.{IsFirstDeep, IsAllShallow}
 use Rattle.ecf_parser.specs.Parsers.{Outcome}
 use Rattle.ecf_parser.specs.Descent.{file}
-use Rattle.ecf_parser.proofs.Faults.{nil_end, take_all, take_len, take_take, read_is_spelled, fault_stops, stop_len, fault_before, fault_ends}
+use Rattle.ecf_parser.proofs.Faults.{take_all, read_is_spelled, fault_stops, fault_before, fault_ends}
+use Rattle.ecf_parser.proofs.Fronts.{shorter, spelled_begins, front_shallow, front_file, front_ends, front_fault}
 
--- ---- fronts
+-- ---- the first token that is too deep
 
-take_drop : (n : ℕ) (ls : List Lexeme) → take n ls ++ drop n ls ≡ ls
-take_drop zero ls = refl
-take_drop (suc n) [] = refl
-take_drop (suc n) (l ∷ ls) = ap (λ t. l ∷ t) (take_drop n ls)
-
--- what begins some file still does when it is cut
-shorter : (m n : ℕ) (ls : List Lexeme) → m ≤ n → BeginsFile (take n ls) → BeginsFile (take m ls)
-shorter m n ls le found =
-    let front : List Lexeme = take m ls in
-    let rest : List Lexeme = drop m (take n ls) in
-    let whole : front ++ rest ≡ take n ls = ap (λ t. t ++ rest) (sym (take_take m n ls le)) ∙ take_drop m (take n ls) in
-    let e : take n ls ++ found.0 ≡ front ++ (rest ++ found.0) = ap (λ t. t ++ found.0) (sym whole) ∙ append_assoc front rest found.0 in
-    (rest ++ found.0, found.1, subst (λ t. Spells t found.1) e found.2)
-
-spelled_begins : (ls : List Lexeme) (tree : Tree) → Spells ls tree → BeginsFile ls
-spelled_begins ls tree p = ([], tree, subst (λ t. Spells t tree) (sym (nil_end ls)) p)
-
--- ---- nesting
-
-one_more : (p : Lexeme → Bool) (ls : List Lexeme) (i : ℕ) (b : Bool) → p (get_or ls i (NumberOf 0)) ≡ b → i < length ls → (count_by p (take i ls) ≤ count_by p (take (i + 1) ls)) × (count_by p (take (i + 1) ls) ≤ count_by p (take i ls) + 1)
-one_more p ls i true e h = let step = count_by_more_yes p ls i (NumberOf 0) h e in (omega arith, omega arith)
-one_more p ls i false e h = let step = count_by_more_no p ls i (NumberOf 0) h e in (omega arith, omega arith)
-
-counts : (p : Lexeme → Bool) (ls : List Lexeme) (i : ℕ) → i < length ls → (count_by p (take i ls) ≤ count_by p (take (i + 1) ls)) × (count_by p (take (i + 1) ls) ≤ count_by p (take i ls) + 1)
-counts p ls i h = one_more p ls i (p (get_or ls i (NumberOf 0))) refl h
-
-none_yet : (p : Lexeme → Bool) (ls : List Lexeme) → count_by p (take 0 ls) ≡ 0
-none_yet p ls = refl
-
--- nesting grows by one at most
-just_deep : (ls : List Lexeme) (i : ℕ) → i < length ls → nesting_limit < nesting ls i → IsShallow ls i → nesting ls i ≡ nesting_limit + 1
-just_deep ls zero h deep shallow = let a = counts opens ls 0 h in let e = none_yet opens ls in let up = a.1 in absurd (omega arith)
-just_deep ls (suc i) h deep shallow =
-    let before : nesting ls i ≤ nesting_limit = shallow i (omega arith) (omega arith) in
-    let e : i + 1 ≡ suc i = omega arith in
-    let up : count_by opens (take (suc i + 1) ls) ≤ count_by opens (take (suc i) ls) + 1 = (counts opens ls (suc i) h).1 in
-    let down : count_by closes (take i ls) ≤ count_by closes (take (suc i) ls) = subst (λ n. count_by closes (take i ls) ≤ count_by closes (take n ls)) e (counts closes ls i (omega arith)).0 in
-    let last : count_by opens (take (suc i) ls) - count_by closes (take i ls) ≤ nesting_limit = subst (λ n. count_by opens (take n ls) - count_by closes (take i ls) ≤ nesting_limit) e before in
-    omega arith
-
--- a first token that is too deep
 pub record Deep (ls : List Lexeme) (n : ℕ) : Type 0 where
   pub at : ℕ
-  pub within : at < n
-  pub deep : nesting_limit < nesting ls at
-  pub shallow : IsShallow ls at
+  pub below : at < n
+  pub first : IsFirstDeep ls at
 
 more_shallow : (ls : List Lexeme) (n : ℕ) → IsShallow ls n → nesting ls n ≤ nesting_limit → (token : ℕ) (b : Bool) → leb n token ≡ b → token < suc n → token < length ls → nesting ls token ≤ nesting_limit
 more_shallow ls n h here token true e lt within = let same : n ≡ token = grind (arith, nat_tests) in subst (λ t. nesting ls t ≤ nesting_limit) same here
 more_shallow ls n h here token false e lt within = h token (grind (arith, nat_tests)) within
 
-next_deep : (ls : List Lexeme) (n : ℕ) (b : Bool) → leb (nesting ls n) nesting_limit ≡ b → IsShallow ls n → IsShallow ls (suc n) ⊎ Deep ls (suc n)
-next_deep ls n true e h = inl (λ token lt within. more_shallow ls n h (grind (arith, nat_tests)) token (leb n token) refl lt within)
-next_deep ls n false e h = inr (record { at = n; within = omega arith; deep = grind (arith, nat_tests); shallow = h })
+next_deep : (ls : List Lexeme) (n : ℕ) → n < length ls → (b : Bool) → leb (nesting ls n) nesting_limit ≡ b → IsShallow ls n → IsShallow ls (suc n) ⊎ Deep ls (suc n)
+next_deep ls n lt true e h = inl (λ token up within. more_shallow ls n h (grind (arith, nat_tests)) token (leb n token) refl up within)
+next_deep ls n lt false e h = inr (record { at = n; below = omega arith; first = record { within = lt; deep = grind (arith, nat_tests); shallow = h } })
 
-first_deep : (ls : List Lexeme) (n : ℕ) → IsShallow ls n ⊎ Deep ls n
-first_deep ls zero = inl (λ token lt within. absurd (omega arith))
-first_deep ls (suc n) = elim (first_deep ls n) [
-  | inl h ↦ next_deep ls n (leb (nesting ls n) nesting_limit) refl h
-  | inr d ↦ inr (record { at = d.at; within = omega (arith, d.within); deep = d.deep; shallow = d.shallow })
+first_deep : (ls : List Lexeme) (n : ℕ) → n ≤ length ls → IsShallow ls n ⊎ Deep ls n
+first_deep ls zero le = inl (λ token lt within. absurd (omega arith))
+first_deep ls (suc n) le = elim (first_deep ls n (omega arith)) [
+  | inl h ↦ next_deep ls n (omega arith) (leb (nesting ls n) nesting_limit) refl h
+  | inr d ↦ inr (record { at = d.at; below = omega (arith, d.below); first = d.first })
 ]
 
 -- ---- some answer
@@ -80,51 +38,45 @@ first_deep ls (suc n) = elim (first_deep ls n) [
 Answer : List Lexeme → Type 0
 Answer ls = ((tree : Tree) × IsFileOf ls tree) ⊎ (((token : ℕ) × IsOutOfPlace ls token) ⊎ ((token : ℕ) × IsTooDeep ls token))
 
-all_shallow : (ls : List Lexeme) → IsShallow ls (length ls) → (o : Outcome Tree) → file (numbered 0 ls) ≡ o → Answer ls
-unfolding Answer
-all_shallow ls h (Ok p) e = inl (p.0, record { spelled = read_is_spelled ls p.0 p.1 e; shallow = h })
-all_shallow ls h (Err rest) e = inr (inl (
-  length ls - length rest,
-  record {
-    before = fault_before ls rest (fault_stops ls rest e);
-    with_it = fault_ends ls rest e;
-    shallow = λ token lt within. h token within within;
-  },
-))
+-- what reading to the end says, where none is too deep
+pub file_read : (ls : List Lexeme) (tree : Tree) (rest : Numbered) → IsAllShallow ls → file (numbered 0 ls) ≡ Ok (tree, rest) → IsFileOf ls tree
+file_read ls tree rest h e = record { spelled = read_is_spelled ls tree rest e; shallow = h }
 
-too_deep : (ls : List Lexeme) (d : Deep ls (length ls)) → BeginsFile (take d.at ls) → Answer ls
-unfolding Answer
-too_deep ls d begins = inr (inr (d.at, record { within = d.within; before = begins; deep = just_deep ls d.at d.within d.deep d.shallow; shallow = d.shallow }))
+pub fault_found : (ls : List Lexeme) (rest : Numbered) → IsAllShallow ls → file (numbered 0 ls) ≡ Err rest → IsOutOfPlace ls (length ls - length rest)
+fault_found ls rest h e = record {
+  before = fault_before ls rest (fault_stops ls rest e);
+  with_it = fault_ends ls rest e;
+  shallow = λ token lt within. h token within within;
+}
 
-cut_fault : (ls : List Lexeme) (d : Deep ls (length ls)) (t : ℕ × Lexeme) (c : Numbered) → file (numbered 0 (take d.at ls)) ≡ Err (t ∷ c) → IsOutOfPlace ls (length (take d.at ls) - length (t ∷ c))
-cut_fault ls d t c e =
-    let front : List Lexeme = take d.at ls in
-    let stops = fault_stops front (t ∷ c) e in
-    let len : length front ≡ d.at = take_len d.at ls (omega (arith, d.within)) in
-    let k : ℕ = length front - length (t ∷ c) in
-    let small : k < d.at = omega (arith, len, stop_len front (t ∷ c) stops) in
-    let ends = fault_ends front (t ∷ c) e in
-    record {
-      before = subst BeginsFile (take_take k d.at ls (omega arith)) (fault_before front (t ∷ c) stops);
-      with_it = record {
-        within = omega (arith, d.within);
-        none = λ lt begins. ends.none (omega arith) (subst BeginsFile (sym (take_take (k + 1) d.at ls (omega arith))) begins);
-        over = λ same tree p. absurd (omega (arith, d.within));
-      };
-      shallow = λ token lt within. d.shallow token (omega arith) within;
-    }
+Shallow : List Lexeme → Type 0
+Shallow ls = ((tree : Tree) × IsFileOf ls tree) ⊎ ((token : ℕ) × IsOutOfPlace ls token)
 
-some_deep : (ls : List Lexeme) (d : Deep ls (length ls)) (o : Outcome Tree) → file (numbered 0 (take d.at ls)) ≡ o → Answer ls
+read_shallow : (ls : List Lexeme) → IsAllShallow ls → (o : Outcome Tree) → file (numbered 0 ls) ≡ o → Shallow ls
+unfolding Shallow
+read_shallow ls h (Ok p) e = inl (p.0, file_read ls p.0 p.1 h e)
+read_shallow ls h (Err rest) e = inr (length ls - length rest, fault_found ls rest h e)
+
+all_shallow : (ls : List Lexeme) → Shallow ls → Answer ls
+unfolding Answer Shallow
+all_shallow ls (inl is) = inl is
+all_shallow ls (inr is) = inr (inl is)
+
+beside : (ls : List Lexeme) (d : ℕ) → IsFirstDeep ls d → (token : ℕ) → IsOutOfPlace (take d ls) token → (b : Bool) → leb d token ≡ b → Answer ls
 unfolding Answer
-some_deep ls d (Ok p) e = too_deep ls d (spelled_begins (take d.at ls) p.0 (read_is_spelled (take d.at ls) p.0 p.1 e))
-some_deep ls d (Err []) e = too_deep ls d (subst BeginsFile (take_all (length (take d.at ls) - 0) (take d.at ls) (omega arith)) (fault_before (take d.at ls) [] (fault_stops (take d.at ls) [] e)))
-some_deep ls d (Err (t ∷ c)) e = inr (inl (length (take d.at ls) - length (t ∷ c), cut_fault ls d t c e))
+beside ls d h token is true e = inr (inr (d, front_ends ls d token h is (grind (arith, nat_tests))))
+beside ls d h token is false e = inr (inl (token, front_fault ls d token h is (grind (arith, nat_tests))))
+
+some_deep : (ls : List Lexeme) (d : ℕ) → IsFirstDeep ls d → Shallow (take d ls) → Answer ls
+unfolding Answer Shallow
+some_deep ls d h (inl is) = inr (inr (d, front_file ls d is.0 h is.1))
+some_deep ls d h (inr is) = beside ls d h is.0 is.1 (leb d is.0) refl
 
 pub some_answer : SomeAnswer
 unfolding Answer
-some_answer ls = elim (first_deep ls (length ls)) [
-  | inl h ↦ all_shallow ls h (file (numbered 0 ls)) refl
-  | inr d ↦ some_deep ls d (file (numbered 0 (take d.at ls))) refl
+some_answer ls = elim (first_deep ls (length ls) (omega arith)) [
+  | inl h ↦ all_shallow ls (read_shallow ls h (file (numbered 0 ls)) refl)
+  | inr d ↦ some_deep ls d.at d.first (read_shallow (take d.at ls) (front_shallow ls d.at d.first) (file (numbered 0 (take d.at ls))) refl)
 ]
 
 -- ---- one answer

@@ -98,10 +98,10 @@ possible {B} {R} o (reads b more y e r) = λ at. ([], y, subst (λ t. R t y) (no
 possible {B} {R} o (stuck b more e c) = λ at. let found = c at in (found.0, found.1, subst (λ t. R (t ++ numbered at found.0) found.1) (no_front b more e) found.2)
 
 abbrev Goes : {A B : Type 0} → (Numbered → A → Type 0) → (Numbered → B → Type 0) → (A → Parser B) → Type 0
-Goes {A} {B} R1 R f = (a : Numbered) (x : A) → R1 a x → (ls : Numbered) → Good (λ b y. R (a ++ b) y) ls (f x ls)
+Goes {A} {B} Part R f = (a : Numbered) (x : A) → Part a x → (ls : Numbered) → Good (λ b y. R (a ++ b) y) ls (f x ls)
 
-complete_both : {A B : Type 0} (R1 : Numbered → A → Type 0) (R : Numbered → B → Type 0) (f : A → Parser B) (a : Numbered) → Completes R1 a → Goes R1 R f → Completes R a
-complete_both R1 R f a c goes = λ at.
+complete_both : {A B : Type 0} (Part : Numbered → A → Type 0) (R : Numbered → B → Type 0) (f : A → Parser B) (a : Numbered) → Completes Part a → Goes Part R f → Completes R a
+complete_both Part R f a c goes = λ at.
     let first = c at in
     let so_far : Numbered = a ++ numbered at first.0 in
     let then_ : Completes (λ b y. R (so_far ++ b) y) [] = possible (f first.1 []) (goes so_far first.1 first.2 []) in
@@ -110,11 +110,11 @@ complete_both R1 R f a c goes = λ at.
     append_assoc a (numbered at first.0) (numbered (at + length first.0) second.0) ∙ ap (λ t. a ++ t) (sym (numbered_append at first.0 second.0)) in
     (first.0 ++ second.0, second.1, subst (λ t. R t second.1) e second.2)
 
-good_bind : {A B : Type 0} {R1 : Numbered → A → Type 0} {R : Numbered → B → Type 0} (ls : Numbered) (o : Outcome A) (f : A → Parser B) → Good R1 ls o → Goes R1 R f → Good R ls (and_then o f)
-good_bind {A} {B} {R1} {R} ls o f (reads a rest x e r) goes = shift a rest (f x rest) e (goes a x r rest)
-good_bind {A} {B} {R1} {R} ls o f (stuck a rest e c) goes = stuck a rest e (complete_both R1 R f a c goes)
+good_bind : {A B : Type 0} {Part : Numbered → A → Type 0} {R : Numbered → B → Type 0} (ls : Numbered) (o : Outcome A) (f : A → Parser B) → Good Part ls o → Goes Part R f → Good R ls (and_then o f)
+good_bind {A} {B} {Part} {R} ls o f (reads a rest x e r) goes = shift a rest (f x rest) e (goes a x r rest)
+good_bind {A} {B} {Part} {R} ls o f (stuck a rest e c) goes = stuck a rest e (complete_both Part R f a c goes)
 
-same_then : {A B : Type 0} {R1 : Numbered → A → Type 0} (ls : Numbered) (o : Outcome A) (f g : A → Parser B) → Good R1 ls o → ((a rest : Numbered) (x : A) → ls ≡ a ++ rest → R1 a x → f x rest ≡ g x rest) → and_then o f ≡ and_then o g
+same_then : {A B : Type 0} {Part : Numbered → A → Type 0} (ls : Numbered) (o : Outcome A) (f g : A → Parser B) → Good Part ls o → ((a rest : Numbered) (x : A) → ls ≡ a ++ rest → Part a x → f x rest ≡ g x rest) → and_then o f ≡ and_then o g
 same_then ls o f g (reads a rest x e r) h = h a rest x e r
 same_then ls o f g (stuck a rest e c) h = refl
 
@@ -129,31 +129,31 @@ grow : {A : Type 0} {R : Numbered → A → Type 0} {ls c : Numbered} (d : Numbe
 grow {ls = ls} d o q le (reads a rest x e r) = far_ok x rest q (omega (arith, rest_len ls a rest e))
 grow {ls = ls} d o q le (stuck a rest e r) = far_err rest q (omega (arith, rest_len ls a rest e))
 
-agree_then : {A B : Type 0} (R1 : Numbered → A → Type 0) (R : Numbered → B → Type 0) {c d : Numbered} (ls : Numbered) (o q : Outcome A) (f g : A → Parser B) → Agree c d o q → Good R1 ls o → Goes R1 R f → ((a r : Numbered) (x : A) → ls ≡ a ++ (r ++ c) → R1 a x → Agree c d (f x (r ++ c)) (g x (r ++ d))) → Agree c d (and_then o f) (and_then q g)
-agree_then R1 R {c = c} ls o q f g (both_ok x l r) good goes on = let found = good_ok o x (l ∷ (r ++ c)) good refl in on found.0 (l ∷ r) x found.1 found.2
-agree_then R1 R ls o q f g (both_err l r) good goes on = both_err l r
-agree_then R1 R {d = d} ls o q f g (far_ok x rest w le) good goes on = let found = good_ok o x rest good refl in grow d (f x rest) (and_then q g) le (goes found.0 x found.2 rest)
-agree_then R1 R ls o q f g (far_err rest w le) good goes on = far_err rest (and_then q g) le
+agree_then : {A B : Type 0} (Part : Numbered → A → Type 0) (R : Numbered → B → Type 0) {c d : Numbered} (ls : Numbered) (o q : Outcome A) (f g : A → Parser B) → Agree c d o q → Good Part ls o → Goes Part R f → ((a r : Numbered) (x : A) → ls ≡ a ++ (r ++ c) → Part a x → Agree c d (f x (r ++ c)) (g x (r ++ d))) → Agree c d (and_then o f) (and_then q g)
+agree_then Part R {c = c} ls o q f g (both_ok x l r) good goes on = let found = good_ok o x (l ∷ (r ++ c)) good refl in on found.0 (l ∷ r) x found.1 found.2
+agree_then Part R ls o q f g (both_err l r) good goes on = both_err l r
+agree_then Part R {d = d} ls o q f g (far_ok x rest w le) good goes on = let found = good_ok o x rest good refl in grow d (f x rest) (and_then q g) le (goes found.0 x found.2 rest)
+agree_then Part R ls o q f g (far_err rest w le) good goes on = far_err rest (and_then q g) le
 
 front_len : (ls c a r : Numbered) → ls ++ c ≡ a ++ (r ++ c) → length ls ≡ length a + length r
 front_len ls c a r e = omega (arith, ap length e, length-append ls c, length-append a (r ++ c), length-append r c)
 
-pub bind : {A B : Type 0} {N : ℕ} {R1 : Numbered → A → Type 0} {R : Numbered → B → Type 0} {p q : Parser A} {f g : A → Parser B} → Lawful N R1 p q → ((a : Numbered) (x : A) → R1 a x → Lawful N (λ b y. R (a ++ b) y) (f x) (g x)) → Lawful N R (p >>= f) (q >>= g)
-bind {A} {B} {N} {R1} {R} {p} {q} {f} {g} h k = record {
+pub bind : {A B : Type 0} {N : ℕ} {Part : Numbered → A → Type 0} {R : Numbered → B → Type 0} {p q : Parser A} {f g : A → Parser B} → Lawful N Part p q → ((a : Numbered) (x : A) → Part a x → Lawful N (λ b y. R (a ++ b) y) (f x) (g x)) → Lawful N R (p >>= f) (q >>= g)
+bind {A} {B} {N} {Part} {R} {p} {q} {f} {g} h k = record {
   good = λ ls. good_bind ls (p ls) f (h.good ls) (λ a x r. (k a x r).good);
   same = λ ls small. same_then ls (p ls) f g (h.good ls) (λ a rest x e r. (k a x r).same rest (omega (arith, rest_len ls a rest e))) ∙ ap (λ o. and_then o g) (h.same ls small);
-  steady = λ ls c d small. agree_then R1 R (ls ++ c) (p (ls ++ c)) (q (ls ++ d)) f g (h.steady ls c d small) (h.good (ls ++ c)) (λ a x r. (k a x r).good) (λ a r x e t. (k a x t).steady r c d (omega (arith, front_len ls c a r e)));
+  steady = λ ls c d small. agree_then Part R (ls ++ c) (p (ls ++ c)) (q (ls ++ d)) f g (h.steady ls c d small) (h.good (ls ++ c)) (λ a x r. (k a x r).good) (λ a r x e t. (k a x t).steady r c d (omega (arith, front_len ls c a r e)));
 }
 
 -- the same where what the first takes leaves fewer for the second
-pub bind_less : {A B : Type 0} {N : ℕ} {R1 : Numbered → A → Type 0} {R : Numbered → B → Type 0} {p q : Parser A} {f g : A → Parser B} → Lawful N R1 p q → ((a : Numbered) (x : A) → R1 a x → (M : ℕ) → M ≤ N - length a → Lawful M (λ b y. R (a ++ b) y) (f x) (g x)) → Lawful N R (p >>= f) (q >>= g)
-bind_less {A} {B} {N} {R1} {R} {p} {q} {f} {g} h k = record {
+pub bind_less : {A B : Type 0} {N : ℕ} {Part : Numbered → A → Type 0} {R : Numbered → B → Type 0} {p q : Parser A} {f g : A → Parser B} → Lawful N Part p q → ((a : Numbered) (x : A) → Part a x → (M : ℕ) → M ≤ N - length a → Lawful M (λ b y. R (a ++ b) y) (f x) (g x)) → Lawful N R (p >>= f) (q >>= g)
+bind_less {A} {B} {N} {Part} {R} {p} {q} {f} {g} h k = record {
   good = λ ls. good_bind ls (p ls) f (h.good ls) (λ a x r. (k a x r 0 (omega arith)).good);
   same = λ ls small. same_then ls (p ls) f g (h.good ls) (λ a rest x e r. (k a x r (N - length a) (omega (arith, rest_len ls a rest e))).same rest (omega (arith, rest_len ls a rest e))) ∙ ap (λ o. and_then o g) (h.same ls small);
-  steady = λ ls c d small. agree_then R1 R (ls ++ c) (p (ls ++ c)) (q (ls ++ d)) f g (h.steady ls c d small) (h.good (ls ++ c)) (λ a x r. (k a x r 0 (omega arith)).good) (λ a r x e t. (k a x t (N - length a) (omega arith)).steady r c d (omega (arith, front_len ls c a r e)));
+  steady = λ ls c d small. agree_then Part R (ls ++ c) (p (ls ++ c)) (q (ls ++ d)) f g (h.steady ls c d small) (h.good (ls ++ c)) (λ a x r. (k a x r 0 (omega arith)).good) (λ a r x e t. (k a x t (N - length a) (omega arith)).steady r c d (omega (arith, front_len ls c a r e)));
 }
 
-last_good : {A B : Type 0} {R1 : Numbered → A → Type 0} {R : Numbered → B → Type 0} (ls : Numbered) (o : Outcome A) (f : A → B) → Good R1 ls o → ((a : Numbered) (x : A) → R1 a x → R a (f x)) → Good R ls (and_then o (λ x. pure (f x)))
+last_good : {A B : Type 0} {Part : Numbered → A → Type 0} {R : Numbered → B → Type 0} (ls : Numbered) (o : Outcome A) (f : A → B) → Good Part ls o → ((a : Numbered) (x : A) → Part a x → R a (f x)) → Good R ls (and_then o (λ x. pure (f x)))
 last_good ls o f (reads a rest x e r) k = reads a rest (f x) e (k a x r)
 last_good ls o f (stuck a rest e c) k = stuck a rest e (λ at. let found = c at in (found.0, f found.1, k (a ++ numbered at found.0) found.1 found.2))
 
@@ -164,8 +164,8 @@ last_agree o q f (far_ok x rest w le) = far_ok (f x) rest (and_then q (λ x. pur
 last_agree o q f (far_err rest w le) = far_err rest (and_then q (λ x. pure (f x))) le
 
 -- the last of a line, and what the line is read as
-pub last : {A B : Type 0} {N : ℕ} {R1 : Numbered → A → Type 0} {R : Numbered → B → Type 0} {p q : Parser A} (f : A → B) → Lawful N R1 p q → ((a : Numbered) (x : A) → R1 a x → R a (f x)) → Lawful N R (p >>= (λ x. pure (f x))) (q >>= (λ x. pure (f x)))
-last {A} {B} {N} {R1} {R} {p} {q} f h k = record {
+pub last : {A B : Type 0} {N : ℕ} {Part : Numbered → A → Type 0} {R : Numbered → B → Type 0} {p q : Parser A} (f : A → B) → Lawful N Part p q → ((a : Numbered) (x : A) → Part a x → R a (f x)) → Lawful N R (p >>= (λ x. pure (f x))) (q >>= (λ x. pure (f x)))
+last {A} {B} {N} {Part} {R} {p} {q} f h k = record {
   good = λ ls. last_good ls (p ls) f (h.good ls) k;
   same = λ ls small. ap (λ o. and_then o (λ x. pure (f x))) (h.same ls small);
   steady = λ ls c d small. last_agree (p (ls ++ c)) (q (ls ++ d)) f (h.steady ls c d small);

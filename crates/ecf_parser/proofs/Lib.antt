@@ -9,11 +9,10 @@ pub mod TakesStatements
 pub mod TakesFiles
 pub mod Cursors
 pub mod Loops
+pub mod DeclarationLoops
+pub mod StatementLoops
 pub mod Faults
 pub mod Decided
-pub mod SmallLaws
-pub mod SmallTakes
-pub mod SmallLoops
-pub mod SmallTurns
-pub mod SmallAnswers
 pub mod Shallow
+pub mod Fronts
+pub mod Answers

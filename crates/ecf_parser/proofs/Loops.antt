@@ -25,20 +25,20 @@ pub front_nothing : {A : Type 0} (xs : List A) → xs ++ [] ≡ xs
 front_nothing [] = refl
 front_nothing (x ∷ xs) = ap (λ t. x ∷ t) (front_nothing xs)
 
-front_one : {A : Type 0} (x : A) (o : Outcome (List A)) → front (x ∷ []) o ≡ and_then o (λ xs. pure (x ∷ xs))
+pub front_one : {A : Type 0} (x : A) (o : Outcome (List A)) → front (x ∷ []) o ≡ and_then o (λ xs. pure (x ∷ xs))
 front_one x (Ok p) = refl
 front_one x (Err e) = refl
 
 module _ {A : Type 0} (t : Sign) (item : Parser A) (opens : (ls : Numbered) → each t item ls ≡ each_turn t item (each t item) ls) where
-  each_more : (xs : List A) (ls mid rest : Numbered) (x : A) → eat_sign t ls ≡ Ok (true, mid) → item mid ≡ Ok (x, rest) → front xs (each t item ls) ≡ front (xs ++ x ∷ []) (each t item rest)
+  pub each_more : (xs : List A) (ls mid rest : Numbered) (x : A) → eat_sign t ls ≡ Ok (true, mid) → item mid ≡ Ok (x, rest) → front xs (each t item ls) ≡ front (xs ++ x ∷ []) (each t item rest)
   unfolding each_found
   each_more xs ls mid rest x e k = ap (front xs) (opens ls ∙ via (each_found item (each t item)) e (via _ k refl)) ∙ front_push xs x (each t item rest)
 
-  each_stuck : (xs : List A) (ls mid rest : Numbered) → eat_sign t ls ≡ Ok (true, mid) → item mid ≡ Err rest → front xs (each t item ls) ≡ Err rest
+  pub each_stuck : (xs : List A) (ls mid rest : Numbered) → eat_sign t ls ≡ Ok (true, mid) → item mid ≡ Err rest → front xs (each t item ls) ≡ Err rest
   unfolding each_found
   each_stuck xs ls mid rest e k = ap (front xs) (opens ls ∙ via (each_found item (each t item)) e (ap (λ o. and_then o (λ x. each t item >>= (λ xs. pure (x ∷ xs)))) k))
 
-  each_over : (xs : List A) (ls mid : Numbered) → eat_sign t ls ≡ Ok (false, mid) → front xs (each t item ls) ≡ Ok (xs, mid)
+  pub each_over : (xs : List A) (ls mid : Numbered) → eat_sign t ls ≡ Ok (false, mid) → front xs (each t item ls) ≡ Ok (xs, mid)
   unfolding each_found
   each_over xs ls mid e = ap (front xs) (opens ls ∙ via (each_found item (each t item)) e refl) ∙ ap (λ t. Ok (t, mid)) (front_nothing xs)
 
@@ -54,6 +54,15 @@ module _ {A : Type 0} (table : Sign → Option Op) (item : Parser A) (opens : (l
   pub chain_over : (xs : List (Op × A)) (ls : Numbered) → op_at table (next ls) ≡ None → front xs (chain table item ls) ≡ Ok (xs, ls)
   unfolding operator
   chain_over xs ls e = ap (front xs) (opens ls ∙ via (chain_by item (chain table item)) (ap (λ p. took p ls) e) refl) ∙ ap (λ t. Ok (t, ls)) (front_nothing xs)
+
+  pub ops_more : (xs : List (Op × A)) (ls mid rest : Numbered) (o : Op) (x : A) → operator table ls ≡ Ok (Some o, mid) → item mid ≡ Ok (x, rest) → front xs (chain table item ls) ≡ front (xs ++ (o, x) ∷ []) (chain table item rest)
+  ops_more xs ls mid rest o x e k = ap (front xs) (opens ls ∙ via (chain_by item (chain table item)) e (via _ k refl)) ∙ front_push xs (o, x) (chain table item rest)
+
+  pub ops_stuck : (xs : List (Op × A)) (ls mid rest : Numbered) (o : Op) → operator table ls ≡ Ok (Some o, mid) → item mid ≡ Err rest → front xs (chain table item ls) ≡ Err rest
+  ops_stuck xs ls mid rest o e k = ap (front xs) (opens ls ∙ via (chain_by item (chain table item)) e (ap (λ z. and_then z (λ x. chain table item >>= (λ xs. pure ((o, x) ∷ xs)))) k))
+
+  pub ops_over : (xs : List (Op × A)) (ls mid : Numbered) → operator table ls ≡ Ok (None, mid) → front xs (chain table item ls) ≡ Ok (xs, mid)
+  ops_over xs ls mid e = ap (front xs) (opens ls ∙ via (chain_by item (chain table item)) e refl) ∙ ap (λ t. Ok (t, mid)) (front_nothing xs)
 
 module _ {A : Type 0} (test : Option Kind → Bool) (item : Parser A) (opens : (ls : Numbered) → until test item ls ≡ until_turn test item (until test item) ls) where
   pub until_more : (xs : List A) (ls rest : Numbered) (x : A) → test (next ls) ≡ false → item ls ≡ Ok (x, rest) → front xs (until test item ls) ≡ front (xs ++ x ∷ []) (until test item rest)
@@ -113,14 +122,14 @@ both_rest ls mid x rest e k = via _ e (ap (λ o. and_then o (λ xs. pure (both_o
 
 -- ---- `+` and `-`
 
-pub terms_more : (xs : List (Op × Expr)) (ls rest : Numbered) (o : Op) (x : Expr) → op_at sum_op (next ls) ≡ Some o → product expr (behind ls) ≡ Ok (x, rest) → front xs (chain sum_op (product expr) ls) ≡ front (xs ++ (o, x) ∷ []) (chain sum_op (product expr) rest)
-terms_more = chain_more sum_op (product expr) product_opens
+pub terms_more : (xs : List (Op × Expr)) (ls mid rest : Numbered) (o : Op) (x : Expr) → operator sum_op ls ≡ Ok (Some o, mid) → product expr mid ≡ Ok (x, rest) → front xs (chain sum_op (product expr) ls) ≡ front (xs ++ (o, x) ∷ []) (chain sum_op (product expr) rest)
+terms_more = ops_more sum_op (product expr) product_opens
 
-pub terms_stuck : (xs : List (Op × Expr)) (ls rest : Numbered) (o : Op) → op_at sum_op (next ls) ≡ Some o → product expr (behind ls) ≡ Err rest → front xs (chain sum_op (product expr) ls) ≡ Err rest
-terms_stuck = chain_stuck sum_op (product expr) product_opens
+pub terms_stuck : (xs : List (Op × Expr)) (ls mid rest : Numbered) (o : Op) → operator sum_op ls ≡ Ok (Some o, mid) → product expr mid ≡ Err rest → front xs (chain sum_op (product expr) ls) ≡ Err rest
+terms_stuck = ops_stuck sum_op (product expr) product_opens
 
-pub terms_over : (xs : List (Op × Expr)) (ls : Numbered) → op_at sum_op (next ls) ≡ None → front xs (chain sum_op (product expr) ls) ≡ Ok (xs, ls)
-terms_over = chain_over sum_op (product expr) product_opens
+pub terms_over : (xs : List (Op × Expr)) (ls mid : Numbered) → operator sum_op ls ≡ Ok (None, mid) → front xs (chain sum_op (product expr) ls) ≡ Ok (xs, mid)
+terms_over = ops_over sum_op (product expr) product_opens
 
 pub sum_done : (ls mid : Numbered) (x : Expr) (xs : List (Op × Expr)) (rest : Numbered) → product expr ls ≡ Ok (x, mid) → chain sum_op (product expr) mid ≡ Ok (xs, rest) → sum expr ls ≡ Ok (sum_of x xs, rest)
 unfolding sum
@@ -134,16 +143,22 @@ pub sum_rest : (ls mid : Numbered) (x : Expr) (rest : Numbered) → product expr
 unfolding sum
 sum_rest ls mid x rest e k = via _ e (ap (λ o. and_then o (λ xs. pure (sum_of x xs))) k)
 
+pub terms_exit : (ls at end : Numbered) (xs : List (Op × Expr)) → front xs (chain sum_op (product expr) at) ≡ chain sum_op (product expr) ls → operator sum_op at ≡ Ok (None, end) → chain sum_op (product expr) ls ≡ Ok (xs, end)
+terms_exit ls at end xs same h = sym same ∙ terms_over xs at end h
+
+pub terms_keep : (mid at inner end : Numbered) (x : Expr) (xs ys : List (Op × Expr)) (o : Op) → front xs (chain sum_op (product expr) at) ≡ chain sum_op (product expr) mid → operator sum_op at ≡ Ok (Some o, inner) → product expr inner ≡ Ok (x, end) → ys ≡ xs ++ (o, x) ∷ [] → front ys (chain sum_op (product expr) end) ≡ chain sum_op (product expr) mid
+terms_keep mid at inner end x xs ys o same h k f = ap (λ t. front t (chain sum_op (product expr) end)) f ∙ sym (terms_more xs at inner end o x h k) ∙ same
+
 -- ---- `*`, `/` and `%`
 
-pub factors_more : (xs : List (Op × Expr)) (ls rest : Numbered) (o : Op) (x : Expr) → op_at product_op (next ls) ≡ Some o → unary expr (behind ls) ≡ Ok (x, rest) → front xs (chain product_op (unary expr) ls) ≡ front (xs ++ (o, x) ∷ []) (chain product_op (unary expr) rest)
-factors_more = chain_more product_op (unary expr) unary_opens
+pub factors_more : (xs : List (Op × Expr)) (ls mid rest : Numbered) (o : Op) (x : Expr) → operator product_op ls ≡ Ok (Some o, mid) → unary expr mid ≡ Ok (x, rest) → front xs (chain product_op (unary expr) ls) ≡ front (xs ++ (o, x) ∷ []) (chain product_op (unary expr) rest)
+factors_more = ops_more product_op (unary expr) unary_opens
 
-pub factors_stuck : (xs : List (Op × Expr)) (ls rest : Numbered) (o : Op) → op_at product_op (next ls) ≡ Some o → unary expr (behind ls) ≡ Err rest → front xs (chain product_op (unary expr) ls) ≡ Err rest
-factors_stuck = chain_stuck product_op (unary expr) unary_opens
+pub factors_stuck : (xs : List (Op × Expr)) (ls mid rest : Numbered) (o : Op) → operator product_op ls ≡ Ok (Some o, mid) → unary expr mid ≡ Err rest → front xs (chain product_op (unary expr) ls) ≡ Err rest
+factors_stuck = ops_stuck product_op (unary expr) unary_opens
 
-pub factors_over : (xs : List (Op × Expr)) (ls : Numbered) → op_at product_op (next ls) ≡ None → front xs (chain product_op (unary expr) ls) ≡ Ok (xs, ls)
-factors_over = chain_over product_op (unary expr) unary_opens
+pub factors_over : (xs : List (Op × Expr)) (ls mid : Numbered) → operator product_op ls ≡ Ok (None, mid) → front xs (chain product_op (unary expr) ls) ≡ Ok (xs, mid)
+factors_over = ops_over product_op (unary expr) unary_opens
 
 pub product_done : (ls mid : Numbered) (x : Expr) (xs : List (Op × Expr)) (rest : Numbered) → unary expr ls ≡ Ok (x, mid) → chain product_op (unary expr) mid ≡ Ok (xs, rest) → product expr ls ≡ Ok (product_of x xs, rest)
 unfolding product
@@ -156,6 +171,12 @@ product_first ls rest e = ap (λ o. and_then o (λ x. chain product_op (unary ex
 pub product_rest : (ls mid : Numbered) (x : Expr) (rest : Numbered) → unary expr ls ≡ Ok (x, mid) → chain product_op (unary expr) mid ≡ Err rest → product expr ls ≡ Err rest
 unfolding product
 product_rest ls mid x rest e k = via _ e (ap (λ o. and_then o (λ xs. pure (product_of x xs))) k)
+
+pub factors_exit : (ls at end : Numbered) (xs : List (Op × Expr)) → front xs (chain product_op (unary expr) at) ≡ chain product_op (unary expr) ls → operator product_op at ≡ Ok (None, end) → chain product_op (unary expr) ls ≡ Ok (xs, end)
+factors_exit ls at end xs same h = sym same ∙ factors_over xs at end h
+
+pub factors_keep : (mid at inner end : Numbered) (x : Expr) (xs ys : List (Op × Expr)) (o : Op) → front xs (chain product_op (unary expr) at) ≡ chain product_op (unary expr) mid → operator product_op at ≡ Ok (Some o, inner) → unary expr inner ≡ Ok (x, end) → ys ≡ xs ++ (o, x) ∷ [] → front ys (chain product_op (unary expr) end) ≡ chain product_op (unary expr) mid
+factors_keep mid at inner end x xs ys o same h k f = ap (λ t. front t (chain product_op (unary expr) end)) f ∙ sym (factors_more xs at inner end o x h k) ∙ same
 
 -- ---- commas
 

@@ -5,7 +5,8 @@ use Rattle.ecf_grammar.specs.declared.tokens.Kind.{Kind}
 use Rattle.ecf_grammar.specs.declared.tokens.Kind.TheVariants as kind
 use Rattle.ecf_grammar.specs.declared.tokens.Token.{Token}
 use Rattle.ecf_grammar.specs.Lexemes.{Lexeme, lexeme, lexemes_of}
-use Rattle.ecf_grammar.specs.Nesting.{opens, closes, nesting, IsShallow}
+use Rattle.ecf_grammar.specs.Nesting.{opens, closes, nesting}
+use Rattle.ecf_parser.specs.FirstDeep.{IsFirstDeep, IsAllShallow}
 
 abbrev pub opens_token : Token → Bool
 opens_token t = opens (lexeme t.kind [])
@@ -51,10 +52,12 @@ nesting_is source tokens n =
     let c = count_along closes closes_token source (λ t. closes_any t.kind (slice_range source t.start t.end)) tokens n in
     omega (arith, o, c)
 
-pub all_shallow : (source : List ℕ) (tokens : List Token) → ((k : ℕ) → k < length tokens → depth tokens k ≤ 64) → IsShallow (lexemes_of source tokens) (length (lexemes_of source tokens))
+pub all_shallow : (source : List ℕ) (tokens : List Token) → ((k : ℕ) → k < length tokens → depth tokens k ≤ 64) → IsAllShallow (lexemes_of source tokens)
 all_shallow source tokens h = λ k below within. let deep = h k (omega (arith, lexemes_len source tokens)) in omega (arith, nesting_is source tokens k)
 
-pub one_deep : (source : List ℕ) (tokens : List Token) (k : ℕ) → k < length tokens → 64 < depth tokens k → IsShallow (lexemes_of source tokens) (length (lexemes_of source tokens)) → ⊥
-one_deep source tokens k below deep h =
-    let within : k < length (lexemes_of source tokens) = omega (arith, lexemes_len source tokens) in
-    let low = h k within within in omega (arith, nesting_is source tokens k)
+pub first_deep : (source : List ℕ) (tokens : List Token) (at : ℕ) → at < length tokens → 64 < depth tokens at → ((k : ℕ) → k < at → depth tokens k ≤ 64) → IsFirstDeep (lexemes_of source tokens) at
+first_deep source tokens at below deep h = record {
+  within = omega (arith, lexemes_len source tokens);
+  deep = omega (arith, nesting_is source tokens at);
+  shallow = λ k before within. let low = h k before in omega (arith, nesting_is source tokens k);
+}

@@ -157,7 +157,7 @@ while_step : {v : Numbered} {at : ℕ} {cond : Expr} {body : Block} (a rest : Nu
 unfolding while
 while_step {v} a rest p e = while_chosen a rest p ∙ seq _ (word w.While) v a rest (word_is p (a ++ rest)) (via _ e refl)
 
-opens_elses : (ls : Numbered) → elses block ls ≡ else_turn block (elses block) ls
+pub opens_elses : (ls : Numbered) → elses block ls ≡ else_turn block (elses block) ls
 opens_elses ls = elses_is block block_law ls
 
 no_else_step : (rest : Numbered) → is_word w.Else (next rest) ≡ false → elses block rest ≡ Ok (([], None), rest)
@@ -169,7 +169,7 @@ else_step {v} b rest p r k = opens_elses ((v ++ b) ++ rest) ∙ seq (else_turn_b
 else_if_step : {v i : Numbered} {at at1 : ℕ} {first : Expr × Block} {arms : List (Expr × Block)} {last : Option Block} (a r rest : Numbered) → Is (WordOf w.Else) v at → Is (WordOf w.If) i at1 → arm block (a ++ (r ++ rest)) ≡ Ok (first, r ++ rest) → elses block (r ++ rest) ≡ Ok ((arms, last), rest) → elses block ((v ++ (i ++ (a ++ r))) ++ rest) ≡ Ok ((first ∷ arms, last), rest)
 else_if_step {v} {i} a r rest p q e k = opens_elses ((v ++ (i ++ (a ++ r))) ++ rest) ∙ seq (else_turn_by block (elses block)) (eat_word w.Else) v (i ++ (a ++ r)) rest (eats_word p ((i ++ (a ++ r)) ++ rest)) (seq (else_by block (elses block)) (eat_word w.If) i (a ++ r) rest (eats_word q ((a ++ r) ++ rest)) (seq _ (arm block) a r rest e (via _ k refl)))
 
-opens_stmts : (ls : Numbered) → until (is_sign s.CloseBrace) (stmt block) ls ≡ until_turn (is_sign s.CloseBrace) (stmt block) (until (is_sign s.CloseBrace) (stmt block)) ls
+pub opens_stmts : (ls : Numbered) → until (is_sign s.CloseBrace) (stmt block) ls ≡ until_turn (is_sign s.CloseBrace) (stmt block) (until (is_sign s.CloseBrace) (stmt block)) ls
 opens_stmts ls = until_is SpellsStmt SpellsStmts (is_sign s.CloseBrace) stmt_len SpellsStmts.no_stmt (λ a b x xs r rs. SpellsStmts.stmts r rs) (stmt block) (λ M. fewer M (suc M) (omega arith) (stmt_law M block block (block_law M))) ls
 
 block_step : {o c : Numbered} {at1 at2 : ℕ} {xs : List Stmt} (a rest : Numbered) → Is (SignOf s.OpenBrace) o at1 → until (is_sign s.CloseBrace) (stmt block) (a ++ (c ++ rest)) ≡ Ok (xs, c ++ rest) → Is (SignOf s.CloseBrace) c at2 → block ((o ++ (a ++ c)) ++ rest) ≡ Ok (roll-Block (record { stmts = xs }), rest)

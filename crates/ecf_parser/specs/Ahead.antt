@@ -1,5 +1,5 @@
 -- What a cursor shows, and what it keeps.
-use Rattle.std.specs.Prelude.{ℕ, ◌+◌, ◌^◌, ◌<◌, length}
+use Rattle.std.specs.Prelude.{◌+◌, ◌^◌, ◌<◌, length}
 use Rattle.std.specs.List.{AllByRecursion}
 use Rattle.ecf_grammar.specs.Lexemes.{Numbered, numbered, lexemes_of}
 use Rattle.ecf_grammar.specs.Reading.{IsTokenOf}

@@ -1,6 +1,6 @@
 pub mod Parsers
 pub mod Descent
-pub mod Outcome
 pub mod Ahead
-pub mod SmallFile
-pub mod SmallDescent
+pub mod Outcome
+pub mod FirstDeep
+pub mod Refuses

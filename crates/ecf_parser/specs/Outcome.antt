@@ -1,5 +1,5 @@
 -- What a function that reads ensures.
-use Rattle.std.specs.Prelude.{◌≡◌, ◌≢◌, List, ◌++◌, Result, Ok, Err}
+use Rattle.std.specs.Prelude.{◌≡◌, ◌≢◌, Result, Ok, Err}
 use Rattle.ecf_grammar.specs.Lexemes.{Numbered}
 use Rattle.ecf_parser.specs.declared.cursor.Stop.{Stop}
 use Rattle.ecf_parser.specs.declared.cursor.Stop.TheVariants.{NoMemory}

@@ -1,13 +1,14 @@
 //! A place among the tokens of a source, and the reading of single tokens there.
 
-ghost use Rattle.std.specs.Prelude.{◌≡◌, ◌<◌, ◌≤◌, length, false, OnOk, IsTrue, IsSome};
+ghost use Rattle.std.specs.Prelude.{◌≡◌, ◌<◌, ◌≤◌, ◌^◌, length, false, OnOk, IsTrue, IsSome};
 ghost use Rattle.ecf_grammar.specs.Lexemes.{lexemes_of, numbered};
-ghost use Rattle.ecf_grammar.specs.Reading as reading;
+ghost use Rattle.ecf_grammar.specs.Reading.{IsTokenOf};
+ghost use Rattle.std.specs.List.{AllByRecursion};
 ghost use Rattle.ecf_parser.specs.Parsers as spec;
 ghost use Rattle.ecf_parser.specs.Outcome.{Reads};
 
 use crate::tables::{is_name, is_sign, is_word, number_in};
-use ecf_grammar::{Kind, Sign, Token, Word, tokens_in_place};
+use ecf_grammar::{Kind, Sign, Token, Word};
 use ecf_lang::name::Name;
 use std::alloc::{AllocError, Global};
 use std::marker::Model;
@@ -55,10 +56,10 @@ impl<'a> Model for Cursor<'a> {
 impl<'a> Cursor<'a> {
     /// The place before the first of the source's tokens.
     pub fn new(alloc: Global, source: &'a [u8], tokens: &'a [Token]) -> Cursor<'a>
-        requires { reading.Reads source.now tokens.now }
+        requires placed { AllByRecursion (IsTokenOf source.now) tokens.now }
+        requires few { length tokens.now < 2 ^ 32 }
         ensures { result ≡ numbered 0 (lexemes_of source.now tokens.now) }
     {
-        tokens_in_place();
         Cursor {
             alloc,
             source,

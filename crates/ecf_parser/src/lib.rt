@@ -1,12 +1,14 @@
-//! Reads the tokens of a contract file as its tree, or finds the first that is out of place. So far the laws of the
-//! grammar, and the reading of the small files that can be run.
+//! Reads the tokens of a contract file as its tree, or finds the first that is out of place or nested too deep.
 #![tactic(auto)]
 
 mod cursor;
+mod declaration;
+mod expression;
 mod laws;
 mod nesting;
-mod small;
+mod parser;
+mod statement;
 mod tables;
 
-pub use laws::{one_answer, one_small_tree, one_tree, some_answer};
-pub use small::read_small;
+pub use laws::{one_answer, one_tree, some_answer};
+pub use parser::{SyntaxFault, parse};

@@ -1,11 +1,13 @@
 //! How deep the brackets of tokens are nested.
 
-ghost use Rattle.std.specs.Prelude.{◌≡◌, ◌↔◌, ℕ, List, [], length, IsTrue};
+ghost use Rattle.std.specs.Prelude.{◌≡◌, ℕ, List, [], IfSome, IfNone};
 ghost use Rattle.ecf_grammar.specs.Lexemes.{lexeme, lexemes_of};
 ghost use Rattle.ecf_grammar.specs.Nesting as spec;
+ghost use Rattle.ecf_parser.specs.FirstDeep.{IsFirstDeep, IsAllShallow};
 
 use ecf_grammar::{Kind, Sign, Token};
 
+/// How deep brackets may be nested.
 const NESTING_LIMIT: usize = 64;
 
 fn opens(kind: Kind) -> bool
@@ -26,22 +28,23 @@ fn closes(kind: Kind) -> bool
     )
 }
 
-/// Whether no token is nested too deep, whatever source the tokens are of.
-pub fn is_shallow(tokens: &[Token]) -> bool
-    ensures { (source : List ℕ) → (IsTrue result ↔ spec.IsShallow (lexemes_of source tokens.now) (length (lexemes_of source tokens.now))) }
+/// The first token that is nested too deep, whatever source the tokens are of.
+pub fn first_too_deep(tokens: &[Token]) -> Option<usize>
+    ensures some { IfSome result (λ deep. (source : List ℕ) → IsFirstDeep (lexemes_of source tokens.now) deep) }
+    ensures none { IfNone result ((source : List ℕ) → IsAllShallow (lexemes_of source tokens.now)) }
 {
     let mut opened: usize = 0;
     let mut closed: usize = 0;
-    for token in tokens {
+    for (at, token) in tokens.iter().enumerate() {
         if opens(token.kind) {
             opened += 1;
         }
         if opened.saturating_sub(closed) > NESTING_LIMIT {
-            return false;
+            return Some(at);
         }
         if closes(token.kind) {
             closed += 1;
         }
     }
-    true
+    None
 }

@@ -1,4 +1,4 @@
-use Rattle.std.proofs.Common.{◌≡◌, subst}
+use Rattle.std.proofs.Common.{subst}
 use Rattle.ecf_stream.specs.OneLine.{SaysNothing}
 use Rattle.ecf_host.proofs.Lines.{says_nothing}
 use Rattle.ecf_host.proofs.stream.read_stream.Goals as goal

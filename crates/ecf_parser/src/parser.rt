@@ -1,0 +1,89 @@
+//! The tree of a whole file.
+
+ghost use Rattle.std.specs.Prelude.{◌≡◌, ◌⊎◌, ◌^◌, ◌<◌, length, IfOk, IfErr, IsErrAnd, MatchResult};
+ghost use Rattle.std.specs.List.{AllByRecursion};
+ghost use Rattle.ecf_lang.specs.declared.tree.Tree.{Tree};
+ghost use Rattle.ecf_grammar.specs.Lexemes.{lexemes_of};
+ghost use Rattle.ecf_grammar.specs.Reading as reading;
+ghost use Rattle.ecf_grammar.specs.Spells.{IsFileOf};
+ghost use Rattle.ecf_parser.specs.FirstDeep.{IsAllShallow};
+ghost use Rattle.ecf_parser.specs.Refuses.{Refuses};
+ghost use Rattle.ecf_parser.specs.Refuses as spec;
+ghost use Rattle.ecf_parser.specs.declared.parser.SyntaxFault.{SyntaxFault};
+ghost use Rattle.ecf_parser.specs.declared.parser.SyntaxFault.TheVariants.{NoMemory};
+
+use crate::cursor::{Cursor, Stop};
+use crate::nesting::first_too_deep;
+use ecf_grammar::{Token, tokens_in_place};
+use ecf_lang::tree::Tree;
+use std::alloc::Global;
+use thiserror::Error;
+
+/// Why tokens are no contract file: the first token at fault, counted from 0; or want of memory.
+#[derive(Clone, Copy, Debug, PartialEq, Eq, Error)]
+pub enum SyntaxFault {
+    /// The tokens before this one begin some file, and with it none does; at none of them more than 64 brackets are open.
+    /// The end of the tokens counts as a token.
+    #[error("token {token} is out of place")]
+    At { token: u32 },
+    /// The token is the 65th open bracket, and none before it is out of place. It may be out of place itself.
+    #[error("token {token} is nested too deep")]
+    TooDeep { token: u32 },
+    #[error("out of memory")]
+    NoMemory,
+}
+
+/// The one tree that the tokens of a source spell, by the grammar in docs/language.md. Work and memory are linear in the
+/// number of tokens; functions call each other only as deep as brackets nest, however long a chain is.
+#[tactic(auto, using(crate::proofs::Answers::front_refused, crate::proofs::Answers::front_file, crate::proofs::Answers::front_shallow, crate::proofs::Answers::front_len, crate::proofs::Answers::same_tree, crate::proofs::Answers::only_memory, crate::proofs::Answers::not_both, crate::proofs::Answers::same_fault, crate::proofs::Answers::only_deep))]
+pub fn parse(alloc: Global, source: &[u8], tokens: &[Token]) -> Result<Tree, SyntaxFault>
+    requires { reading.Reads source.now tokens.now }
+
+    // An answer is right.
+    ensures file { IfOk result (IsFileOf (lexemes_of source.now tokens.now)) }
+    ensures refused { IfErr result (λ fault. (fault ≡ NoMemory) ⊎ Refuses (lexemes_of source.now tokens.now) fault) }
+
+    // What is spelled is read, and what has a fault is refused, unless memory runs out.
+    ensures reads { (tree : Tree) → IsFileOf (lexemes_of source.now tokens.now) tree → MatchResult result (λ found. found ≡ tree) (λ e. e ≡ NoMemory) }
+    ensures refuses { (fault : SyntaxFault) → Refuses (lexemes_of source.now tokens.now) fault → IsErrAnd result (λ e. (e ≡ NoMemory) ⊎ (e ≡ fault)) }
+{
+    tokens_in_place();
+    let Some(deep) = first_too_deep(tokens) else {
+        return parse_shallow(alloc, source, tokens);
+    };
+    let token = deep as u32;
+    match parse_shallow(alloc, source, &tokens[..deep]).err() {
+        Some(fault) => Err(first_fault(fault, token)),
+        None => Err(SyntaxFault::TooDeep { token }),
+    }
+}
+
+// The first fault of tokens of which this one is the first nested too deep, where those before it have this fault.
+fn first_fault(fault: SyntaxFault, deep: u32) -> SyntaxFault
+    ensures { result ≡ spec.first_fault fault deep }
+{
+    match fault {
+        SyntaxFault::At { token } if token < deep => SyntaxFault::At { token },
+        SyntaxFault::NoMemory => SyntaxFault::NoMemory,
+        _ => SyntaxFault::TooDeep { token: deep },
+    }
+}
+
+// The same where no token is nested too deep.
+#[tactic(auto, using(crate::proofs::Answers::file_read, crate::proofs::Answers::fault_found, crate::proofs::Answers::lexemes_len, crate::proofs::Answers::no_more_left))]
+fn parse_shallow(alloc: Global, source: &[u8], tokens: &[Token]) -> Result<Tree, SyntaxFault>
+    requires placed { AllByRecursion (reading.IsTokenOf source.now) tokens.now }
+    requires few { length tokens.now < 2 ^ 32 }
+    requires shallow { IsAllShallow (lexemes_of source.now tokens.now) }
+    ensures file { IfOk result (IsFileOf (lexemes_of source.now tokens.now)) }
+    ensures refused { IfErr result (λ fault. (fault ≡ NoMemory) ⊎ Refuses (lexemes_of source.now tokens.now) fault) }
+{
+    let mut cursor = Cursor::new(alloc, source, tokens);
+    match cursor.file() {
+        Ok(tree) => Ok(tree),
+        Err(Stop::Fault) => Err(SyntaxFault::At {
+            token: (tokens.len() - cursor.left()) as u32,
+        }),
+        Err(Stop::NoMemory) => Err(SyntaxFault::NoMemory),
+    }
+}

@@ -1,0 +1,211 @@
+//! Statements and blocks: a function for each line of the grammar. Each call back to a block stands behind a token, so what is left bounds how deep the calls go.
+
+ghost use Rattle.std.specs.Prelude.{◌≡◌, ◌<◌, ◌≤◌, length, OnOk};
+ghost use Rattle.ecf_grammar.specs.declared.tokens.Sign.TheVariants as signs;
+ghost use Rattle.ecf_parser.specs.Descent as spec;
+ghost use Rattle.ecf_parser.specs.Parsers as reading;
+ghost use Rattle.ecf_parser.specs.Outcome.{Reads};
+
+use crate::cursor::{Cursor, Stop};
+use ecf_grammar::{Kind, Sign, Word};
+use ecf_lang::name::Name;
+use ecf_lang::tree::{Block, Expr, Stmt, Ty};
+use sqlite_items::Items;
+
+impl<'a> Cursor<'a> {
+    /// `=`, an expression and `;`.
+    #[tactic(auto, unfolding(crate::specs::Descent::value))]
+    fn value(&mut self) -> Result<Expr, Stop>
+        ensures read { Reads (spec.value self.old) result self.new }
+        ensures fewer { OnOk result (length self.new < length self.old) }
+    {
+        self.sign(Sign::Assign)?;
+        let value = self.expr()?;
+        self.sign(Sign::Semicolon)?;
+        Ok(value)
+    }
+
+    /// An expression and `;`.
+    #[tactic(auto, unfolding(crate::specs::Descent::closed))]
+    fn closed(&mut self) -> Result<Expr, Stop>
+        ensures read { Reads (spec.closed self.old) result self.new }
+        ensures fewer { OnOk result (length self.new < length self.old) }
+    {
+        let value = self.expr()?;
+        self.sign(Sign::Semicolon)?;
+        Ok(value)
+    }
+
+    /// What stands behind the `=` of a `let` of this name, whose token is `at`, and type.
+    #[tactic(auto, unfolding(crate::specs::Descent::let_value))]
+    fn let_value(&mut self, at: u32, name: Name, ty: Ty) -> Result<Stmt, Stop>
+        ensures read { Reads (spec.let_value (at, name) ty self.old) result self.new }
+        ensures fewer { OnOk result (length self.new < length self.old) }
+    {
+        if self.sees_word(Word::Try) {
+            let place = self.word(Word::Try)?;
+            let call = self.external(place)?;
+            self.sign(Sign::Semicolon)?;
+            return Ok(Stmt::Try { at, name, ty, call });
+        }
+        let value = self.expr()?;
+        self.sign(Sign::Semicolon)?;
+        Ok(Stmt::Let {
+            at,
+            name,
+            ty,
+            value,
+        })
+    }
+
+    /// A `let`.
+    #[tactic(auto, unfolding(crate::specs::Descent::let_))]
+    fn let_(&mut self) -> Result<Stmt, Stop>
+        ensures read { Reads (spec.let_ self.old) result self.new }
+        ensures fewer { OnOk result (length self.new < length self.old) }
+    {
+        self.word(Word::Let)?;
+        let (at, name) = self.name()?;
+        self.sign(Sign::Colon)?;
+        let ty = self.type_()?;
+        self.sign(Sign::Assign)?;
+        self.let_value(at, name, ty)
+    }
+
+    /// An assignment to a name, or to a name with an index.
+    #[tactic(auto, unfolding(crate::specs::Descent::set))]
+    fn set(&mut self) -> Result<Stmt, Stop>
+        ensures read { Reads (spec.set self.old) result self.new }
+        ensures fewer { OnOk result (length self.new < length self.old) }
+    {
+        let (at, name) = self.name()?;
+        if !self.eat_sign(Sign::OpenBracket) {
+            let value = self.value()?;
+            return Ok(Stmt::Set { at, name, value });
+        }
+        let key = self.expr()?;
+        self.sign(Sign::CloseBracket)?;
+        let value = self.value()?;
+        Ok(Stmt::SetAt {
+            at,
+            name,
+            key,
+            value,
+        })
+    }
+
+    /// A condition and its block.
+    #[cycle(blocks)]
+    #[tactic(auto, unfolding(crate::specs::Descent::arm))]
+    fn arm(&mut self) -> Result<(Expr, Block), Stop>
+        ensures read { Reads (spec.arm spec.block self.old) result self.new }
+        ensures fewer { OnOk result (length self.new < length self.old) }
+    {
+        let cond = self.expr()?;
+        let body = self.block()?;
+        Ok((cond, body))
+    }
+
+    /// The arms behind `else if` and the block behind a last `else`, so far as there are any.
+    #[cycle(blocks)]
+    #[tactic(auto, using(crate::proofs::StatementLoops::arms_nil, crate::proofs::StatementLoops::arms_more, crate::proofs::StatementLoops::arms_stuck, crate::proofs::StatementLoops::last_more, crate::proofs::StatementLoops::last_stuck, crate::proofs::StatementLoops::arms_over))]
+    fn elses(&mut self) -> Result<(Items<(Expr, Block)>, Option<Block>), Stop>
+        ensures read { Reads (spec.elses spec.block self.old) result self.new }
+        ensures no_more { OnOk result (length self.new ≤ length self.old) }
+    {
+        let mut arms = Items::new(self.alloc);
+        'arms: while self.eat_word(Word::Else) {
+            if !self.eat_word(Word::If) {
+                let last = self.block()?;
+                return Ok((arms, Some(last)));
+            }
+            arms.push(self.arm()?)?;
+        }
+        Ok((arms, None))
+    }
+
+    /// An `if` with its further arms.
+    #[cycle(blocks)]
+    #[tactic(auto, unfolding(crate::specs::Descent::if_))]
+    fn if_(&mut self) -> Result<Stmt, Stop>
+        ensures read { Reads (spec.if_ spec.block self.old) result self.new }
+        ensures fewer { OnOk result (length self.new < length self.old) }
+    {
+        self.word(Word::If)?;
+        let first = self.arm()?;
+        let (rest, last) = self.elses()?;
+        let mut arms = Items::new(self.alloc);
+        arms.push(first)?;
+        arms.append(rest)?;
+        Ok(Stmt::If { arms, last })
+    }
+
+    /// A `while`.
+    #[cycle(blocks)]
+    #[tactic(auto, using(crate::proofs::StatementLoops::while_done, crate::proofs::StatementLoops::while_first, crate::proofs::StatementLoops::while_rest))]
+    fn while_(&mut self) -> Result<Stmt, Stop>
+        ensures read { Reads (spec.while spec.block self.old) result self.new }
+        ensures fewer { OnOk result (length self.new < length self.old) }
+    {
+        self.word(Word::While)?;
+        let (cond, body) = self.arm()?;
+        Ok(Stmt::While { cond, body })
+    }
+
+    /// A statement.
+    #[cycle(blocks)]
+    #[tactic(auto, unfolding(crate::specs::Descent::stmt))]
+    fn stmt(&mut self) -> Result<Stmt, Stop>
+        ensures read { Reads (spec.stmt spec.block self.old) result self.new }
+        ensures fewer { OnOk result (length self.new < length self.old) }
+    {
+        match self.peek() {
+            Some(Kind::Word(Word::Let)) => self.let_(),
+            Some(Kind::Name) => self.set(),
+            Some(Kind::Word(Word::If)) => self.if_(),
+            Some(Kind::Word(Word::While)) => self.while_(),
+            Some(Kind::Word(Word::Return)) => {
+                self.word(Word::Return)?;
+                let value = self.closed()?;
+                Ok(Stmt::Return { value })
+            }
+            Some(Kind::Word(Word::Revert)) => {
+                self.word(Word::Revert)?;
+                let value = self.closed()?;
+                Ok(Stmt::Revert { value })
+            }
+            _ => {
+                let call = self.invoke()?;
+                self.sign(Sign::Semicolon)?;
+                Ok(Stmt::Do { call })
+            }
+        }
+    }
+
+    /// Statements up to a closing brace.
+    #[cycle(blocks)]
+    #[tactic(auto, using(crate::proofs::Loops::front_nil, crate::proofs::StatementLoops::stmts_more, crate::proofs::StatementLoops::stmts_stuck, crate::proofs::StatementLoops::stmts_over))]
+    fn stmts(&mut self) -> Result<Items<Stmt>, Stop>
+        ensures read { Reads (reading.until (reading.is_sign signs.CloseBrace) (spec.stmt spec.block) self.old) result self.new }
+        ensures no_more { OnOk result (length self.new ≤ length self.old) }
+    {
+        let mut stmts = Items::new(self.alloc);
+        'statements: while !self.sees(Sign::CloseBrace) {
+            stmts.push(self.stmt()?)?;
+        }
+        Ok(stmts)
+    }
+
+    /// Statements in braces.
+    #[cycle(blocks)]
+    #[tactic(auto, using(crate::proofs::StatementLoops::block_by), unfolding(crate::specs::Descent::braced))]
+    pub fn block(&mut self) -> Result<Block, Stop>
+        ensures read { Reads (spec.block self.old) result self.new }
+        ensures fewer { OnOk result (length self.new < length self.old) }
+    {
+        self.sign(Sign::OpenBrace)?;
+        let stmts = self.stmts()?;
+        self.sign(Sign::CloseBrace)?;
+        Ok(Block { stmts })
+    }
+}

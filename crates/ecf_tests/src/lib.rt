@@ -1,0 +1,5 @@
+//! Tests that cross crates. There is nothing here to call.
+#![tactic(auto)]
+
+#[cfg(test)]
+mod trees;
