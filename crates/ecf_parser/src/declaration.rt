@@ -14,7 +14,7 @@ use sqlite_items::Items;
 impl<'a> Cursor<'a> {
     /// `num`, `flag` or `addr`.
     #[tactic(auto, unfolding(crate::specs::Descent::type_))]
-    pub fn type_(&mut self) -> Result<Ty, Stop>
+    pub fn type_name(&mut self) -> Result<Ty, Stop>
         ensures read { Reads (spec.type_ self.old) result self.new }
         ensures fewer { OnOk result (length self.new < length self.old) }
     {
@@ -81,7 +81,7 @@ impl<'a> Cursor<'a> {
     {
         let (at, name) = self.name()?;
         self.sign(Sign::Colon)?;
-        let ty = self.type_()?;
+        let ty = self.type_name()?;
         Ok(Param { at, name, ty })
     }
 
@@ -135,7 +135,7 @@ impl<'a> Cursor<'a> {
         ensures read { Reads (spec.field self.old) result self.new }
         ensures fewer { OnOk result (length self.new < length self.old) }
     {
-        let ty = self.type_()?;
+        let ty = self.type_name()?;
         let (at, name) = self.name()?;
         let first = self.first()?;
         self.sign(Sign::Semicolon)?;
@@ -156,9 +156,9 @@ impl<'a> Cursor<'a> {
         self.word(Word::Map)?;
         let (at, name) = self.name()?;
         self.sign(Sign::Colon)?;
-        let key = self.type_()?;
+        let key = self.type_name()?;
         self.sign(Sign::Arrow)?;
-        let value = self.type_()?;
+        let value = self.type_name()?;
         let first = self.entries()?;
         self.sign(Sign::Semicolon)?;
         Ok(Member::Map {
@@ -182,7 +182,7 @@ impl<'a> Cursor<'a> {
         let params = self.params()?;
         self.sign(Sign::CloseParen)?;
         self.sign(Sign::Colon)?;
-        let answer = self.type_()?;
+        let answer = self.type_name()?;
         let body = self.block()?;
         Ok(Member::Method {
             at,

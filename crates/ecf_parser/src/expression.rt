@@ -1,4 +1,5 @@
-//! Expressions: a function for each line of the grammar. Each call back to a whole expression stands behind an opening bracket, so brackets bound how deep the calls go.
+//! Expressions: a function for each line of the grammar. Each call back to a whole expression stands behind an opening bracket,
+//! so brackets bound how deep the calls go.
 
 ghost use Rattle.std.specs.Prelude.{◌≡◌, ◌<◌, ◌≤◌, ◌++◌, [], ◌∷◌, length, IfOk, OnOk, IsSome};
 ghost use Rattle.ecf_grammar.specs.Spells as grammar;

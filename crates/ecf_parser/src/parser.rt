@@ -34,7 +34,7 @@ pub enum SyntaxFault {
 }
 
 /// The one tree that the tokens of a source spell, by the grammar in docs/language.md. Work and memory are linear in the
-/// number of tokens; functions call each other only as deep as brackets nest, however long a chain is.
+/// size of the source; functions call each other only as deep as brackets nest, however long a chain is.
 #[tactic(auto, using(crate::proofs::Answers::front_refused, crate::proofs::Answers::front_file, crate::proofs::Answers::front_shallow, crate::proofs::Answers::front_len, crate::proofs::Answers::same_tree, crate::proofs::Answers::only_memory, crate::proofs::Answers::not_both, crate::proofs::Answers::same_fault, crate::proofs::Answers::only_deep))]
 pub fn parse(alloc: Global, source: &[u8], tokens: &[Token]) -> Result<Tree, SyntaxFault>
     requires { reading.Reads source.now tokens.now }

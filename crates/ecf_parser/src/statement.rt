@@ -1,4 +1,5 @@
-//! Statements and blocks: a function for each line of the grammar. Each call back to a block stands behind a token, so what is left bounds how deep the calls go.
+//! Statements and blocks: a function for each line of the grammar. Each call back to a block stands behind an opening brace,
+//! so brackets bound how deep the calls go.
 
 ghost use Rattle.std.specs.Prelude.{◌≡◌, ◌<◌, ◌≤◌, length, OnOk};
 ghost use Rattle.ecf_grammar.specs.declared.tokens.Sign.TheVariants as signs;
@@ -60,21 +61,21 @@ impl<'a> Cursor<'a> {
 
     /// A `let`.
     #[tactic(auto, unfolding(crate::specs::Descent::let_))]
-    fn let_(&mut self) -> Result<Stmt, Stop>
+    fn let_stmt(&mut self) -> Result<Stmt, Stop>
         ensures read { Reads (spec.let_ self.old) result self.new }
         ensures fewer { OnOk result (length self.new < length self.old) }
     {
         self.word(Word::Let)?;
         let (at, name) = self.name()?;
         self.sign(Sign::Colon)?;
-        let ty = self.type_()?;
+        let ty = self.type_name()?;
         self.sign(Sign::Assign)?;
         self.let_value(at, name, ty)
     }
 
     /// An assignment to a name, or to a name with an index.
     #[tactic(auto, unfolding(crate::specs::Descent::set))]
-    fn set(&mut self) -> Result<Stmt, Stop>
+    fn assignment(&mut self) -> Result<Stmt, Stop>
         ensures read { Reads (spec.set self.old) result self.new }
         ensures fewer { OnOk result (length self.new < length self.old) }
     {
@@ -127,7 +128,7 @@ impl<'a> Cursor<'a> {
     /// An `if` with its further arms.
     #[cycle(blocks)]
     #[tactic(auto, unfolding(crate::specs::Descent::if_))]
-    fn if_(&mut self) -> Result<Stmt, Stop>
+    fn if_stmt(&mut self) -> Result<Stmt, Stop>
         ensures read { Reads (spec.if_ spec.block self.old) result self.new }
         ensures fewer { OnOk result (length self.new < length self.old) }
     {
@@ -143,7 +144,7 @@ impl<'a> Cursor<'a> {
     /// A `while`.
     #[cycle(blocks)]
     #[tactic(auto, using(crate::proofs::StatementLoops::while_done, crate::proofs::StatementLoops::while_first, crate::proofs::StatementLoops::while_rest))]
-    fn while_(&mut self) -> Result<Stmt, Stop>
+    fn while_stmt(&mut self) -> Result<Stmt, Stop>
         ensures read { Reads (spec.while spec.block self.old) result self.new }
         ensures fewer { OnOk result (length self.new < length self.old) }
     {
@@ -160,10 +161,10 @@ impl<'a> Cursor<'a> {
         ensures fewer { OnOk result (length self.new < length self.old) }
     {
         match self.peek() {
-            Some(Kind::Word(Word::Let)) => self.let_(),
-            Some(Kind::Name) => self.set(),
-            Some(Kind::Word(Word::If)) => self.if_(),
-            Some(Kind::Word(Word::While)) => self.while_(),
+            Some(Kind::Word(Word::Let)) => self.let_stmt(),
+            Some(Kind::Name) => self.assignment(),
+            Some(Kind::Word(Word::If)) => self.if_stmt(),
+            Some(Kind::Word(Word::While)) => self.while_stmt(),
             Some(Kind::Word(Word::Return)) => {
                 self.word(Word::Return)?;
                 let value = self.closed()?;

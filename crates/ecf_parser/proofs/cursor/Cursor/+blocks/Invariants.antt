@@ -12,11 +12,11 @@ decreases-stmts l = 4 * length l.self.now + 2
 abbrev pub decreases-stmt : goal.decreases-stmt
 decreases-stmt l = 4 * length l.self.now + 1
 
-abbrev pub decreases-if_ : goal.decreases-if_
-decreases-if_ l = 4 * length l.self.now
+abbrev pub decreases-if_stmt : goal.decreases-if_stmt
+decreases-if_stmt l = 4 * length l.self.now
 
-abbrev pub decreases-while_ : goal.decreases-while_
-decreases-while_ l = 4 * length l.self.now
+abbrev pub decreases-while_stmt : goal.decreases-while_stmt
+decreases-while_stmt l = 4 * length l.self.now
 
 abbrev pub decreases-elses : goal.decreases-elses
 decreases-elses l = 4 * length l.self.now
