@@ -105,8 +105,7 @@ pub enum Stmt {
         ty: Ty,
         value: Expr,
     },
-    /// A `let` of a flag that says whether a call to another object answered; the call is external and
-    /// has the token of `try` as its place.
+    /// A `let` that keeps whether a call answered; the call is external and has the token of `try` as its place.
     Try {
         at: u32,
         name: Name,
@@ -176,16 +175,17 @@ pub enum Expr {
         at: u32,
         inner: Boxed<Expr>,
     },
-    /// At least one further part.
+    /// At least one further part, each behind `*`, `/` or `%`.
     Product {
         first: Boxed<Expr>,
         rest: Items<(Op, Expr)>,
     },
-    /// At least one further part.
+    /// At least one further part, each behind `+` or `-`.
     Sum {
         first: Boxed<Expr>,
         rest: Items<(Op, Expr)>,
     },
+    /// `==`, `!=`, `<`, `<=`, `>` or `>=` between two sides.
     Compare {
         left: Boxed<Expr>,
         op: Op,
