@@ -35,6 +35,7 @@ impl From<AllocError> for Stop {
 /// The tokens of a source from some place on, which contracts see as their numbered lexemes.
 #[derive(Drop)]
 pub struct Cursor<'a> {
+    /// Where names, lists and boxes of the tree are kept.
     pub alloc: Global,
     source: &'a [u8],
     /// The number of the first of the tokens.
@@ -87,7 +88,7 @@ impl<'a> Cursor<'a> {
         self.tokens.len()
     }
 
-    /// Goes to the token behind the next one, and answers the number of that one.
+    /// Passes the next token, and answers its number.
     pub fn skip(&mut self) -> u32
         requires { IsSome (spec.next self.old) }
         ensures behind { self.new ≡ spec.behind self.old }
@@ -112,12 +113,14 @@ impl<'a> Cursor<'a> {
         }
     }
 
+    /// Whether this sign comes next.
     pub fn sees(&self, sign: Sign) -> bool
         ensures { result ≡ spec.is_sign sign (spec.next self.now) }
     {
         is_sign(sign, self.peek())
     }
 
+    /// Whether this word comes next.
     pub fn sees_word(&self, word: Word) -> bool
         ensures { result ≡ spec.is_word word (spec.next self.now) }
     {

@@ -41,7 +41,7 @@ fn both_of(alloc: Global, first: Expr, rest: Items<Expr>) -> Result<Expr, AllocE
     Ok(Expr::And { parts })
 }
 
-/// A first term with further ones, which alone stays as it is.
+/// A first term and further ones; alone it stays as it is.
 fn sum_of(alloc: Global, first: Expr, rest: Items<(Op, Expr)>) -> Result<Expr, AllocError>
     ensures { IfOk result (λ e. e ≡ grammar.sum_of first rest) }
 {
@@ -54,7 +54,7 @@ fn sum_of(alloc: Global, first: Expr, rest: Items<(Op, Expr)>) -> Result<Expr, A
     })
 }
 
-/// A first factor with further ones, which alone stays as it is.
+/// A first factor and further ones; alone it stays as it is.
 fn product_of(alloc: Global, first: Expr, rest: Items<(Op, Expr)>) -> Result<Expr, AllocError>
     ensures { IfOk result (λ e. e ≡ grammar.product_of first rest) }
 {
@@ -265,11 +265,7 @@ impl<'a> Cursor<'a> {
                 let at = self.word(Word::False)?;
                 Ok(Expr::Flag { at, value: false })
             }
-            Some(Kind::Word(Word::Call)) => {
-                let call = self.invoke()?;
-                Ok(Expr::Call { call })
-            }
-            Some(Kind::Word(Word::SelfWord)) => {
+            Some(Kind::Word(Word::Call)) | Some(Kind::Word(Word::SelfWord)) => {
                 let call = self.invoke()?;
                 Ok(Expr::Call { call })
             }
@@ -312,7 +308,7 @@ impl<'a> Cursor<'a> {
         }
     }
 
-    /// A call of another object or of the own one.
+    /// A call behind `call`, or an internal one behind `self`.
     #[cycle(expressions)]
     #[tactic(auto, unfolding(crate::specs::Descent::invoke, crate::specs::Descent::internal))]
     pub fn invoke(&mut self) -> Result<CallExpr, Stop>
@@ -340,7 +336,7 @@ impl<'a> Cursor<'a> {
         }
     }
 
-    /// The call of another object behind `call` or `try`, which is token `at`.
+    /// What stands behind `call` or `try`, whose token is `at`: a target, a method's name and arguments.
     #[cycle(expressions)]
     #[tactic(auto, unfolding(crate::specs::Descent::external))]
     pub fn external(&mut self, at: u32) -> Result<CallExpr, Stop>
@@ -378,7 +374,7 @@ impl<'a> Cursor<'a> {
     #[tactic(auto, using(crate::proofs::Loops::exprs_none, crate::proofs::Loops::exprs_first, crate::proofs::Loops::exprs_some, crate::proofs::Loops::commas_more, crate::proofs::Loops::commas_stuck, crate::proofs::Loops::commas_over))]
     fn exprs(&mut self) -> Result<Items<Expr>, Stop>
         ensures read { Reads (reading.listed signs.Comma signs.CloseParen spec.expr self.old) result self.new }
-        ensures fewer { OnOk result (length self.new ≤ length self.old) }
+        ensures no_more { OnOk result (length self.new ≤ length self.old) }
     {
         let mut args = Items::new(self.alloc);
         if self.sees(Sign::CloseParen) {

@@ -28,7 +28,7 @@ fn closes(kind: Kind) -> bool
     )
 }
 
-/// The first token that is nested too deep, whatever source the tokens are of.
+/// The number of the first token that is nested too deep, if there is one.
 pub fn first_too_deep(tokens: &[Token]) -> Option<usize>
     ensures some { IfSome result (λ deep. (source : List ℕ) → IsFirstDeep (lexemes_of source tokens.now) deep) }
     ensures none { IfNone result ((source : List ℕ) → IsAllShallow (lexemes_of source tokens.now)) }

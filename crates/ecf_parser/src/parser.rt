@@ -22,7 +22,7 @@ use thiserror::Error;
 /// Why tokens are no contract file: the first token at fault, counted from 0; or want of memory.
 #[derive(Clone, Copy, Debug, PartialEq, Eq, Error)]
 pub enum SyntaxFault {
-    /// The tokens before this one begin some file, and with it none does; at none of them more than 64 brackets are open.
+    /// The tokens before this one begin some file and with it none does; at none of these are more than 64 brackets open.
     /// The end of the tokens counts as a token.
     #[error("token {token} is out of place")]
     At { token: u32 },
@@ -58,7 +58,7 @@ pub fn parse(alloc: Global, source: &[u8], tokens: &[Token]) -> Result<Tree, Syn
     }
 }
 
-// The first fault of tokens of which this one is the first nested too deep, where those before it have this fault.
+// The first fault of tokens of which `deep` is the first nested too deep; `fault` is that of the tokens before it.
 fn first_fault(fault: SyntaxFault, deep: u32) -> SyntaxFault
     ensures { result ≡ spec.first_fault fault deep }
 {
@@ -69,7 +69,7 @@ fn first_fault(fault: SyntaxFault, deep: u32) -> SyntaxFault
     }
 }
 
-// The same where no token is nested too deep.
+// What `parse` answers where no token is nested too deep.
 #[tactic(auto, using(crate::proofs::Answers::file_read, crate::proofs::Answers::fault_found, crate::proofs::Answers::lexemes_len, crate::proofs::Answers::no_more_left))]
 fn parse_shallow(alloc: Global, source: &[u8], tokens: &[Token]) -> Result<Tree, SyntaxFault>
     requires placed { AllByRecursion (reading.IsTokenOf source.now) tokens.now }

@@ -37,7 +37,7 @@ impl<'a> Cursor<'a> {
         Ok(value)
     }
 
-    /// What stands behind the `=` of a `let` of this name, whose token is `at`, and type.
+    /// The value or the `try` of a `let`, behind its `=`, and the `;`; `at` is the token of the name.
     #[tactic(auto, unfolding(crate::specs::Descent::let_value))]
     fn let_value(&mut self, at: u32, name: Name, ty: Ty) -> Result<Stmt, Stop>
         ensures read { Reads (spec.let_value (at, name) ty self.old) result self.new }

@@ -7,6 +7,7 @@ ghost use Rattle.ecf_grammar.specs.Spells as grammar;
 use ecf_grammar::{Kind, Sign, Word};
 use ecf_lang::tree::Op;
 
+/// Whether the token is this sign.
 #[tactic(auto, unfolding(crate::specs::Parsers::is_sign))]
 pub fn is_sign(sign: Sign, next: Option<Kind>) -> bool
     ensures { result ≡ spec.is_sign sign next }
@@ -17,6 +18,7 @@ pub fn is_sign(sign: Sign, next: Option<Kind>) -> bool
     }
 }
 
+/// Whether the token is this word.
 #[tactic(auto, unfolding(crate::specs::Parsers::is_word))]
 pub fn is_word(word: Word, next: Option<Kind>) -> bool
     ensures { result ≡ spec.is_word word next }
@@ -27,6 +29,7 @@ pub fn is_word(word: Word, next: Option<Kind>) -> bool
     }
 }
 
+/// Whether the token is a name.
 #[tactic(auto, unfolding(crate::specs::Parsers::is_name))]
 pub fn is_name(next: Option<Kind>) -> bool
     ensures { result ≡ spec.is_name next }
@@ -45,6 +48,7 @@ pub fn number_in(next: Option<Kind>) -> Option<u128>
     }
 }
 
+/// The operator that compares, if the token is one.
 pub fn comparison_op(next: Option<Kind>) -> Option<Op>
     ensures { result ≡ spec.op_at grammar.comparison_op next }
 {
@@ -59,6 +63,7 @@ pub fn comparison_op(next: Option<Kind>) -> Option<Op>
     }
 }
 
+/// The operator between terms, if the token is one.
 pub fn sum_op(next: Option<Kind>) -> Option<Op>
     ensures { result ≡ spec.op_at grammar.sum_op next }
 {
@@ -69,6 +74,7 @@ pub fn sum_op(next: Option<Kind>) -> Option<Op>
     }
 }
 
+/// The operator between factors, if the token is one.
 pub fn product_op(next: Option<Kind>) -> Option<Op>
     ensures { result ≡ spec.op_at grammar.product_op next }
 {
