@@ -9,6 +9,7 @@ mod sink;
 mod source;
 
 pub use gate::{Gate, OpenGate, Point};
+pub use plan::count_up;
 pub use shelf::{Fetch, MemShelf, Shelf, SureShelf};
 pub use sink::{MemSink, Sink, SureSink, WriteFault, put_all};
 pub use source::{Ending, Failed, MemSource, Reading, Source, SureSource, read_all};

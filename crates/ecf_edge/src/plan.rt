@@ -22,7 +22,7 @@ impl Model for FaultPlan {
 }
 
 /// One more, or the greatest number where there is none.
-pub(crate) fn count_up(count: &mut u64)
+pub fn count_up(count: &mut u64)
     ensures one_more { count.new ≡ counted_up count.old }
     ensures later { count.old ≤ count.new }
 {

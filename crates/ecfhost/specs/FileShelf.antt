@@ -33,7 +33,7 @@ fault_of_kind NotFound = Missing
 fault_of_kind OutOfMemory = NoMemory
 fault_of_kind _ = Failed
 
--- the source can come to a state in which more of its reads have failed
+-- some state of the source counts more failed reads; that a read leads there isn't said
 abbrev pub CanFail : {S : Type 0} → (S → ℕ) → S → Type 0
 CanFail {S} faults source = (after : S) × Rose (faults source) (faults after)
 

@@ -1,5 +1,5 @@
 //! The edge over real files and streams. What they hold is told to nobody; faults are counted. No clause knows what the
-//! system answers: each says what becomes of it.
+//! system answers; the private functions say what becomes of each answer.
 
 ghost use Rattle.std.specs.Prelude.{◌≡◌, ◌≢◌, ℕ, ◌≤◌, ◌<◌, ◌↔◌, List, None, Result, OnOk, OnErr, IfOk, IfSome, IsErrAnd, IsErrOf, length, ⊤};
 ghost use Rattle.std.specs.declared.io.Error.{Error};
@@ -9,13 +9,13 @@ ghost use Rattle.ecf_edge.specs.Count.{Rose, counted_up};
 ghost use Rattle.ecfhost.specs.FileShelf.{fresh_shelf, counts_after, fault_of_kind, IsAnswerTo};
 ghost use Rattle.ecfhost.specs.Stream.{fresh_stream};
 
-use ecf_edge::{Ending, Failed, Fetch, Shelf, Sink, Source, WriteFault, read_all};
+use ecf_edge::{Ending, Failed, Fetch, Shelf, Sink, Source, WriteFault, count_up, read_all};
 use std::alloc::Global;
 use std::fs::File;
 use std::io::{self, ErrorKind, Read, Write};
 use std::marker::Model;
 
-/// A stream that is read, as standard input.
+/// A stream that is read, such as standard input.
 #[derive(Drop)]
 pub struct Input<R> {
     reader: R,
@@ -31,7 +31,7 @@ impl<R> Model for Input<R> {
 }
 
 impl<R: Read> Input<R> {
-    /// Nothing was read yet.
+    /// A stream of which nothing was read yet.
     pub fn new(reader: R) -> Self
         ensures { result ≡ fresh_stream reader }
     {
@@ -63,7 +63,7 @@ impl<R: Read> Source for Input<R> {
     }
 }
 
-/// A stream that is written, as standard output.
+/// A stream that is written, such as standard output.
 #[derive(Drop)]
 pub struct Output<W> {
     writer: W,
@@ -79,7 +79,7 @@ impl<W> Model for Output<W> {
 }
 
 impl<W: Write> Output<W> {
-    /// Nothing was written yet.
+    /// A stream on which nothing was written yet.
     pub fn new(writer: W) -> Self
         ensures { result ≡ fresh_stream writer }
     {
@@ -137,7 +137,7 @@ impl Opener for HostRuntime {
     }
 }
 
-/// The files of the machine, by their paths.
+/// The files that an opener opens, by their paths.
 #[derive(Drop)]
 pub struct FileShelf<'a, O> {
     opener: &'a O,
@@ -155,7 +155,7 @@ impl<'a, O> Model for FileShelf<'a, O> {
 }
 
 impl<'a, O: Opener> FileShelf<'a, O> {
-    /// Nothing was fetched yet.
+    /// A shelf from which nothing was fetched yet.
     pub fn new(opener: &'a O) -> Self
         ensures { result ≡ fresh_shelf opener.now }
     {
@@ -202,7 +202,7 @@ impl<O: Opener> Shelf for FileShelf<'_, O> {
     }
 }
 
-// The content of what was opened, of at most so many bytes, or why it can't be opened.
+// The content of what was opened, where it has at most `most` bytes, or why there is none.
 fn content_if_opened<S: Source + Drop>(
     alloc: Global,
     opened: io::Result<S>,
@@ -243,12 +243,4 @@ fn fault_of(error: io::Error) -> Fetch
         ErrorKind::OutOfMemory => Fetch::NoMemory,
         _ => Fetch::Failed,
     }
-}
-
-// One more, or the greatest number where there is none.
-fn count_up(count: &mut u64)
-    ensures one_more { count.new ≡ counted_up count.old }
-    ensures later { count.old ≤ count.new }
-{
-    *count = count.saturating_add(1);
 }

@@ -22,7 +22,7 @@ fn main(rt: HostRuntime) -> ExitCode {
     ExitCode::from(status)
 }
 
-// The words without the program's name; none where they can't be had as text.
+// The words without the program's name; none where they aren't text or there is no memory for them.
 fn words(rt: &HostRuntime) -> Vec<String> {
     let mut words = Vec::new(rt.alloc());
     let Ok(args) = env::args(rt) else {
