@@ -1,9 +1,10 @@
 -- A run that nothing goes wrong in ends in its journal, or for want of memory.
-use Rattle.std.proofs.Common.{◌≡◌, ◌≢◌, ◌⊎◌, ◌≤◌, ◌<◌, ℕ, zero, suc, List, Option, Some, None, IfSome, refl, ap, sym, subst, ◌∙◌, arith, inl, inr, eq-or-lt_of_le}
+use Rattle.std.proofs.Common.{◌≡◌, ◌≢◌, ◌⊎◌, ◌≤◌, ◌<◌, ℕ, zero, suc, List, Option, Some, None, IfSome, length, refl, ap, sym, subst, ◌∙◌, arith, inl, inr, eq-or-lt_of_le}
 use Rattle.ecf_lang.specs.declared.tree.Tree.{Tree}
 use Rattle.ecf_lang.specs.declared.typed.Typed.{Typed}
 use Rattle.ecf_lang.specs.declared.tx.Tx.{Tx}
-use Rattle.ecf_edge.specs.Shelf.{Files, HoldsUnder}
+use Rattle.std.specs.Prelude.{IsSomeAnd}
+use Rattle.ecf_edge.specs.Shelf.{Files, content_of, HoldsUnder, HoldsNoneUnder, HoldsMoreUnder}
 use Rattle.ecf_grammar.specs.declared.tokens.Token.{Token}
 use Rattle.ecf_grammar.specs.Reading.{Fault, Reads}
 use Rattle.ecf_grammar.specs.Lexemes.{Lexeme, lexemes_of}
@@ -16,7 +17,7 @@ use Rattle.ecf_texts.specs.OneLine.{IsOneLine}
 use Rattle.ecf_host.specs.Asked.{Asked, OnText, IsAccepted, IsNoStream}
 use Rattle.ecf_host.specs.Answers.{Held, Count, Counts, asked, IsCause, IsRefused, IsWriteFault}
 use Rattle.ecf_host.specs.Complete.{IsWhole}
-use Rattle.ecf_host.specs.Contract.{HasTree, IsContract, IsRefusedText}
+use Rattle.ecf_host.specs.Contract.{contract_limit, HasTree, IsContract, IsRefusedText}
 use Rattle.ecf_host.specs.declared.refusal.Refusal.{Refusal}
 use Rattle.ecf_host.specs.declared.refusal.Refusal.TheVariants.{Words, TooLong, BadByte, WideNumber, TooManyTokens, Syntax, TooDeep, Unbuilt, StreamUnbuilt, Missing, ReadFault, StreamReadFault}
 
@@ -72,6 +73,32 @@ no_text asked files typed refusal told accepted on =
     let same : on.text ≡ accepted.text = one_text asked.contents files asked.file on.text accepted.text told on.held accepted.held in
     not_refused accepted.text typed refusal accepted.holds (subst (λ (t : List ℕ). IsRefusedText t refusal) same on.holds)
 
+-- what is told of a file: its bytes, if there are any
+told : (contents : Option Files) (files : Files) (P : Files → Type 0) → contents ≡ Some files → IfSome contents P → P files
+told contents files P is h = subst (λ c. IfSome c P) is h
+
+-- a file that has a text within the limit is there, and isn't longer
+pub not_missing : (asked : Asked) (files : Files) → asked.contents ≡ Some files → (P : List ℕ → Type 0) → OnText asked P → HoldsNoneUnder asked.contents asked.file → ⊥
+not_missing asked files is P on none =
+    let held : content_of files asked.file ≡ Some on.text = told asked.contents files (λ fs. content_of fs asked.file ≡ Some on.text) is on.held in
+    let gone : content_of files asked.file ≡ None = told asked.contents files (λ fs. content_of fs asked.file ≡ None) is none in
+    absurd cc
+
+pub not_longer : (asked : Asked) (files : Files) → asked.contents ≡ Some files → (P : List ℕ → Type 0) → OnText asked P → HoldsMoreUnder asked.contents asked.file contract_limit → ⊥
+not_longer asked files is P on more =
+    let held : content_of files asked.file ≡ Some on.text = told asked.contents files (λ fs. content_of fs asked.file ≡ Some on.text) is on.held in
+    let long : IsSomeAnd (content_of files asked.file) (λ bytes. contract_limit < length bytes) = told asked.contents files (λ fs. IsSomeAnd (content_of fs asked.file) (λ bytes. contract_limit < length bytes)) is more in
+    let longer : contract_limit < length on.text = subst (λ c. IsSomeAnd c (λ bytes. contract_limit < length bytes)) held long in
+    let within = on.within in
+    absurd (omega arith)
+
+-- a file that is longer than the limit is there
+pub not_missing_longer : (asked : Asked) (files : Files) → asked.contents ≡ Some files → HoldsNoneUnder asked.contents asked.file → HoldsMoreUnder asked.contents asked.file contract_limit → ⊥
+not_missing_longer asked files is none more =
+    let gone : content_of files asked.file ≡ None = told asked.contents files (λ fs. content_of fs asked.file ≡ None) is none in
+    let long : IsSomeAnd (content_of files asked.file) (λ bytes. contract_limit < length bytes) = told asked.contents files (λ fs. IsSomeAnd (content_of fs asked.file) (λ bytes. contract_limit < length bytes)) is more in
+    subst (λ c. IsSomeAnd c (λ bytes. contract_limit < length bytes)) gone long
+
 -- the file is accepted as one contract
 pub one_accepted : (asked : Asked) (files : Files) (typed other : Typed) → asked.contents ≡ Some files → IsAccepted asked typed → IsAccepted asked other → typed ≡ other
 one_accepted asked files typed other told is also =
@@ -85,8 +112,8 @@ some_stream typed left bytes tx told is none =
 
 no_cause : (asked : Asked) (counts : Counts) (out note : Count) (refusal : Refusal) → IsWhole asked counts out note → ¬ IsCause asked counts refusal
 no_cause asked counts out note Words whole cause = cause
-no_cause asked counts out note TooLong whole cause = whole.undisturbed.calm.short cause.0
-no_cause asked counts out note Missing whole cause = whole.undisturbed.calm.there cause.0
+no_cause asked counts out note TooLong whole cause = not_longer asked whole.undisturbed.files whole.undisturbed.contents (λ text. IsContract text whole.typed) whole.accepted cause.1
+no_cause asked counts out note Missing whole cause = not_missing asked whole.undisturbed.files whole.undisturbed.contents (λ text. IsContract text whole.typed) whole.accepted cause.1
 no_cause asked counts out note ReadFault whole cause = whole.undisturbed.calm.shelf cause
 no_cause asked counts out note StreamReadFault whole (typed, accepted, rose) = whole.undisturbed.calm.source rose
 no_cause asked counts out note StreamUnbuilt whole (typed, accepted, none) =

@@ -1,6 +1,6 @@
 -- An undisturbed run that has a cause to be refused is refused for it, and for no other, unless memory runs out.
 use Rattle.std.proofs.Common.{◌≡◌, ◌≢◌, ◌⊎◌, ◌≤◌, ℕ, List, Option, Some, refl, ap, sym, subst, ◌∙◌, inl, inr}
-use Rattle.ecf_edge.specs.Shelf.{Files}
+use Rattle.ecf_edge.specs.Shelf.{Files, HoldsNoneUnder, HoldsMoreUnder}
 use Rattle.ecf_grammar.specs.Reading.{Fault, IsFaulty}
 use Rattle.ecf_grammar.specs.Lexemes.{Lexeme, lexemes_of}
 use Rattle.ecf_grammar.specs.Spells.{IsOutOfPlace, IsTooDeep}
@@ -9,11 +9,11 @@ use Rattle.ecf_parser.proofs.Decided.{one_answer}
 use Rattle.ecf_host.specs.Asked.{Asked, OnText, IsNoStream}
 use Rattle.ecf_host.specs.Answers.{Held, Count, Counts, asked, OnAccepted, IsCause, IsOwed, IsWritten, IsRefused, IsWriteFault, IsTold}
 use Rattle.ecf_host.specs.Complete.{IsUndisturbed, IsFaulted}
-use Rattle.ecf_host.specs.Contract.{OnLexemes, IsUnbuilt, IsRefusedText}
+use Rattle.ecf_host.specs.Contract.{contract_limit, OnLexemes, IsUnbuilt, IsContract, IsRefusedText}
 use Rattle.ecf_host.specs.Refusals.{status_of}
 use Rattle.ecf_host.specs.declared.refusal.Refusal.{Refusal}
 use Rattle.ecf_host.specs.declared.refusal.Refusal.TheVariants.{Words, TooLong, BadByte, WideNumber, TooManyTokens, Syntax, TooDeep, Unbuilt, StreamUnbuilt, Missing, ReadFault, StreamReadFault}
-use Rattle.ecf_host.proofs.Complete.{same_value, same_lexemes, one_text, no_text, one_accepted, some_stream, settled}
+use Rattle.ecf_host.proofs.Complete.{same_value, same_lexemes, one_text, no_text, one_accepted, some_stream, settled, not_missing, not_longer, not_missing_longer}
 
 -- ---- a text has one cause at most
 
@@ -72,10 +72,12 @@ module _ (text : List ℕ) where
 
 -- ---- an undisturbed run has one cause at most
 
--- the text is refused, or the stream is
+-- there is no file, or it is too long, or its text is refused, or the stream is
 data Reason (asked : Asked) : Refusal → Type 0 where
   of_text : (refusal : Refusal) → OnText asked (λ text. IsRefusedText text refusal) → Reason asked refusal
   of_stream : OnAccepted asked (IsNoStream asked) → Reason asked StreamUnbuilt
+  missing : HoldsNoneUnder asked.contents asked.file → Reason asked Missing
+  long : HoldsMoreUnder asked.contents asked.file contract_limit → Reason asked TooLong
 
 module _ (asked : Asked) (counts : Counts) (out note : Count) (still : IsUndisturbed asked counts out note) where
   reason : (refusal : Refusal) → IsCause asked counts refusal → Reason asked refusal
@@ -87,8 +89,8 @@ module _ (asked : Asked) (counts : Counts) (out note : Count) (still : IsUndistu
   reason Unbuilt cause = of_text Unbuilt cause
   reason StreamUnbuilt cause = of_stream cause
   reason Words cause = absurd cause
-  reason TooLong cause = absurd (still.calm.short cause.0)
-  reason Missing cause = absurd (still.calm.there cause.0)
+  reason TooLong cause = long cause.1
+  reason Missing cause = missing cause.1
   reason ReadFault cause = absurd (still.calm.shelf cause)
   reason StreamReadFault (typed, accepted, rose) = absurd (still.calm.source rose)
 
@@ -102,6 +104,18 @@ module _ (asked : Asked) (counts : Counts) (out note : Count) (still : IsUndistu
   one_reason refusal other (of_text r h) (of_stream k) = absurd (no_text asked still.files k.0 refusal still.contents k.1 h)
   one_reason refusal other (of_stream h) (of_text s k) = absurd (no_text asked still.files h.0 other still.contents h.1 k)
   one_reason refusal other (of_stream h) (of_stream k) = refl
+  one_reason refusal other (of_text r h) (missing k) = absurd (not_missing asked still.files still.contents (λ text. IsRefusedText text refusal) h k)
+  one_reason refusal other (of_text r h) (long k) = absurd (not_longer asked still.files still.contents (λ text. IsRefusedText text refusal) h k)
+  one_reason refusal other (of_stream h) (missing k) = absurd (not_missing asked still.files still.contents (λ text. IsContract text h.0) h.1 k)
+  one_reason refusal other (of_stream h) (long k) = absurd (not_longer asked still.files still.contents (λ text. IsContract text h.0) h.1 k)
+  one_reason refusal other (missing h) (of_text s k) = absurd (not_missing asked still.files still.contents (λ text. IsRefusedText text other) k h)
+  one_reason refusal other (missing h) (of_stream k) = absurd (not_missing asked still.files still.contents (λ text. IsContract text k.0) k.1 h)
+  one_reason refusal other (missing h) (missing k) = refl
+  one_reason refusal other (missing h) (long k) = absurd (not_missing_longer asked still.files still.contents h k)
+  one_reason refusal other (long h) (of_text s k) = absurd (not_longer asked still.files still.contents (λ text. IsRefusedText text other) k h)
+  one_reason refusal other (long h) (of_stream k) = absurd (not_longer asked still.files still.contents (λ text. IsContract text k.0) k.1 h)
+  one_reason refusal other (long h) (missing k) = absurd (not_missing_longer asked still.files still.contents k h)
+  one_reason refusal other (long h) (long k) = refl
 
   one_cause : (refusal other : Refusal) → IsCause asked counts refusal → IsCause asked counts other → refusal ≡ other
   one_cause refusal other h k = one_reason refusal other (reason refusal h) (reason other k)
@@ -114,6 +128,8 @@ module _ (asked : Asked) (counts : Counts) (out note : Count) (still : IsUndistu
   not_owed : (refusal : Refusal) (text : List ℕ) → Reason asked refusal → IsOwed asked text → ⊥
   not_owed refusal text (of_text r h) owed = no_text asked still.files owed.typed refusal still.contents owed.accepted h
   not_owed refusal text (of_stream h) owed = no_stream_owed text h owed
+  not_owed refusal text (missing h) owed = not_missing asked still.files still.contents (λ t. IsContract t owed.typed) owed.accepted h
+  not_owed refusal text (long h) owed = not_longer asked still.files still.contents (λ t. IsContract t owed.typed) owed.accepted h
 
   no_journal : (refusal : Refusal) (out_held note_held : Held) → IsCause asked counts refusal → IsWritten asked out_held note_held → ⊥
   no_journal refusal out_held note_held cause written = not_owed refusal written.text (reason refusal cause) written.owed

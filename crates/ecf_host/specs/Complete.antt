@@ -7,16 +7,14 @@ use Rattle.ecf_host.specs.Answers.{Count, Counts, RoseIn, IsCause}
 use Rattle.ecf_host.specs.Asked.{Asked, IsAccepted, IsStream}
 use Rattle.ecf_host.specs.declared.refusal.Refusal.{Refusal}
 
--- no count rose: each read and each write went well
+-- no count of faults rose: each fetch, read and write went well
 pub record IsCalm (counts : Counts) (out_faults note_faults : Count) : Type 0 where
   pub shelf : ¬ RoseIn counts.shelf_faults
-  pub short : ¬ RoseIn counts.long_answers
-  pub there : ¬ RoseIn counts.absences
   pub source : ¬ RoseIn counts.source_faults
   pub out : ¬ RoseIn out_faults
   pub note : ¬ RoseIn note_faults
 
--- the shelf and the source tell what they have, and no count rose
+-- the shelf and the source tell what they have, and no count of faults rose
 pub record IsUndisturbed (asked : Asked) (counts : Counts) (out_faults note_faults : Count) : Type 0 where
   pub files : Files
   pub contents : asked.contents ≡ Some files

@@ -12,15 +12,15 @@ pub enum Refusal {
     Words,
     /// The contract file has more bytes than its limit.
     TooLong,
-    /// A byte of the contract file begins no token.
+    /// A byte of the contract file begins no token, blank or comment.
     BadByte { at: u32 },
     /// A number of the contract file is above 2^128 - 1.
     WideNumber { at: u32 },
     /// The contract file has more tokens than its limit.
     TooManyTokens { at: u32 },
-    /// A token of the contract file is the first out of place.
+    /// This token of the contract file is the first out of place.
     Syntax { token: u32 },
-    /// A token of the contract file is the first nested too deep.
+    /// This token of the contract file is the first nested too deep.
     TooDeep { token: u32 },
     /// The contract is not of the kind that can be run so far.
     Unbuilt,
@@ -28,7 +28,7 @@ pub enum Refusal {
     StreamUnbuilt,
     /// There is no contract file of that name.
     Missing,
-    /// The contract file can't be read.
+    /// The contract file can't be opened, or a read of it failed.
     ReadFault,
     /// A read of the stream failed.
     StreamReadFault,

@@ -12,6 +12,8 @@ const DEEP: &str =
 
 const JOURNAL: &str = "1 1.1 Counter bump 100 -> committed 1 fuel 14\nend\nCounter.n = 1\n";
 
+const LINE: &str = "1 Counter bump 100\n";
+
 // What a call is made over: the contract, the stream, how many bytes a read gives and a write takes, and which fetch, read, write and
 // write of a note fail, by number; 0 for none.
 #[derive(Clone, Copy)]
@@ -70,8 +72,6 @@ fn called(rt: &HostRuntime, file: &str, case: Case) -> Result<Left, AllocError> 
         note: Vec::from_slice(alloc, note.held())?,
     })
 }
-
-const LINE: &str = "1 Counter bump 100\n";
 
 fn over(stream: &'static str, step: usize) -> Case {
     Case {
@@ -215,7 +215,7 @@ fn stops_at_a_write_that_fails(rt: HostRuntime) -> Result<(), AllocError> {
 fn answers_at_each_read_that_fails(rt: HostRuntime) -> Result<(), AllocError> {
     // One byte a read, so that the stream's end comes with the read behind its last byte.
     let reads = LINE.len() as u64 + 1;
-    for number in 1..reads + 1 {
+    for number in 1..=reads {
         let left = called(
             &rt,
             "c.ecf",

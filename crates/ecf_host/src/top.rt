@@ -107,7 +107,7 @@ pub fn host<R, F: Shelf, S: Source, K: Sink, N: Sink>(
     // Where nothing goes wrong, only want of memory keeps it from the journal.
     ensures complete { (file : List ℕ) → file_to_run (map string_bytes words.now) ≡ Some file → IsWhole (asked file (F.contents shelf.old) (S.left input.old)) (counts (F.faults shelf.old) (F.faults shelf.new) (F.long_answers shelf.old) (F.long_answers shelf.new) (F.absences shelf.old) (F.absences shelf.new) (S.faults input.old) (S.faults input.new)) (count (K.faults out.old) (K.faults out.new)) (count (N.faults note.old) (N.faults note.new)) → (result ≡ 0) ⊎ (result ≡ 6) }
 
-    // Where no call on the objects fails and a cause stands, only want of memory keeps it from telling that refusal.
+    // Where no count of faults rises and a cause stands, only want of memory keeps it from telling that refusal.
     ensures refuses { (file : List ℕ) (refusal : Refusal) → file_to_run (map string_bytes words.now) ≡ Some file → IsFaulted (asked file (F.contents shelf.old) (S.left input.old)) (counts (F.faults shelf.old) (F.faults shelf.new) (F.long_answers shelf.old) (F.long_answers shelf.new) (F.absences shelf.old) (F.absences shelf.new) (S.faults input.old) (S.faults input.new)) (count (K.faults out.old) (K.faults out.new)) (count (N.faults note.old) (N.faults note.new)) refusal → ((result ≡ status_of refusal) × IsTold refusal (held (K.held out.old) (K.held out.new)) (held (N.held note.old) (N.held note.new))) ⊎ (result ≡ 6) }
 {
     match file_to_run(words) {
