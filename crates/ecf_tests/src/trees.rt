@@ -17,6 +17,7 @@ fn too_deep(token: u32) -> Option<SyntaxFault> {
     Some(SyntaxFault::TooDeep { token })
 }
 
+// Expects this fault, or a tree where there is none.
 fn expect_fault(
     rt: &impl Abort,
     alloc: Global,
