@@ -13,6 +13,7 @@ abbrev pub first_withdrawal : Lone
 first_withdrawal = record {
   outcome = Answer 5;
   steps = reads 0 (owed 1) 5 ∷ writes 0 (owed 1) 0 ∷ reads 0 cash 20 ∷ writes 0 cash 15 ∷ [];
+  writes = (owed 1, 0) ∷ (cash, 15) ∷ [];
   fields = (cash, 15) ∷ [];
 }
 
@@ -24,6 +25,7 @@ abbrev pub second_withdrawal : Lone
 second_withdrawal = record {
   outcome = Answer 0;
   steps = reads 2 (owed 1) 0 ∷ writes 2 (owed 1) 0 ∷ reads 2 cash 15 ∷ writes 2 cash 15 ∷ [];
+  writes = (owed 1, 0) ∷ (cash, 15) ∷ [];
   fields = (cash, 15) ∷ [];
 }
 
@@ -35,6 +37,7 @@ abbrev pub first_receipt : Lone
 first_receipt = record {
   outcome = Answer 0;
   steps = reads 1 got 0 ∷ writes 1 got 5 ∷ reads 1 tries 0 ∷ reads 1 tries 0 ∷ writes 1 tries 1 ∷ [];
+  writes = (got, 5) ∷ (tries, 1) ∷ [];
   fields = (got, 5) ∷ (tries, 1) ∷ [];
 }
 
@@ -46,6 +49,7 @@ abbrev pub second_receipt : Lone
 second_receipt = record {
   outcome = Answer 0;
   steps = reads 3 got 5 ∷ writes 3 got 5 ∷ reads 3 tries 1 ∷ [];
+  writes = (got, 5) ∷ [];
   fields = (got, 5) ∷ (tries, 1) ∷ [];
 }
 
@@ -57,6 +61,7 @@ abbrev pub outer_withdrawal : Lone
 outer_withdrawal = record {
   outcome = Answer 5;
   steps = reads 0 (owed 1) 5 ∷ reads 0 cash 20 ∷ writes 0 cash 15 ∷ writes 0 (owed 1) 0 ∷ [];
+  writes = (owed 1, 0) ∷ (cash, 15) ∷ [];
   fields = (cash, 15) ∷ [];
 }
 
@@ -68,6 +73,7 @@ abbrev pub inner_withdrawal : Lone
 inner_withdrawal = record {
   outcome = Answer 0;
   steps = reads 2 (owed 1) 0 ∷ reads 2 cash 15 ∷ writes 2 cash 15 ∷ writes 2 (owed 1) 0 ∷ [];
+  writes = (owed 1, 0) ∷ (cash, 15) ∷ [];
   fields = (cash, 15) ∷ [];
 }
 
@@ -79,6 +85,7 @@ abbrev pub not_answered : Lone
 not_answered = record {
   outcome = OutOfFuel;
   steps = reads 0 (owed 1) 5 ∷ writes 0 (owed 1) 0 ∷ reads 0 cash 20 ∷ writes 0 cash 15 ∷ [];
+  writes = [];
   fields = (owed 1, 5) ∷ (cash, 20) ∷ [];
 }
 
@@ -90,6 +97,7 @@ abbrev pub not_paid : Lone
 not_paid = record {
   outcome = OutOfFuel;
   steps = reads 0 (owed 1) 5 ∷ writes 0 (owed 1) 0 ∷ reads 0 cash 20 ∷ writes 0 cash 15 ∷ [];
+  writes = [];
   fields = (owed 1, 5) ∷ (cash, 20) ∷ [];
 }
 
@@ -101,6 +109,7 @@ abbrev pub heard_in_order : Lone
 heard_in_order = record {
   outcome = Answer 241;
   steps = writes 0 (m 60) 100 ∷ [];
+  writes = (m 60, 100) ∷ [];
   fields = (m 60, 100) ∷ [];
 }
 
@@ -112,6 +121,7 @@ abbrev pub heard_flag : Lone
 heard_flag = record {
   outcome = Answer 1;
   steps = writes 0 x 1 ∷ reads 0 x 1 ∷ [];
+  writes = (x, 1) ∷ [];
   fields = (x, 1) ∷ [];
 }
 
@@ -123,6 +133,7 @@ abbrev pub undone_run : Lone
 undone_run = record {
   outcome = Reverted (User 3);
   steps = writes 1 y 7 ∷ [];
+  writes = [];
   fields = [];
 }
 

@@ -7,7 +7,7 @@ use Rattle.ecf_lang.specs.declared.run.Cause.TheVariants.{Depth}
 use Rattle.ecf_lang.specs.declared.run.Outcome.{Outcome}
 use Rattle.ecf_lang.specs.declared.typed.Typed.{Typed}
 use Rattle.ecf_lang.specs.Fits.{method_at}
-use Rattle.ecf_lang.specs.Store.{Store}
+use Rattle.ecf_lang.specs.Store.{Store, Cells}
 use Rattle.ecf_lang.specs.Running.{State, Halts, RunsOut, Running, ◌>>=◌, ◌>>◌, pure, revert, note, hearing, begin}
 use Rattle.ecf_lang.specs.Meaning.{Frame, body_of, Ran, ran, fresh}
 
@@ -54,12 +54,14 @@ of_invocation inv step = record step { inv = inv }
 pub record Lone : Type 0 where
   pub outcome : Outcome
   pub steps : List Step
+  -- the written cells with their last numbers, rising
+  pub writes : Cells
   -- the fields after it
   pub fields : Store
 
 -- the run, with the steps under the invocation's number
 abbrev pub lone_of : ℕ → Ran → Lone
-lone_of inv r = record { outcome = r.outcome; steps = map (of_invocation inv) r.steps; fields = r.store }
+lone_of inv r = record { outcome = r.outcome; steps = map (of_invocation inv) r.steps; writes = r.writes; fields = r.store }
 
 -- an invocation run alone on these fields
 unfoldable pub alone : Typed → ℕ → Invocation → Store → Lone

@@ -8,6 +8,7 @@ use Rattle.ecf_lang.specs.declared.typed.TypedObject.{TypedObject}
 use Rattle.ecf_lang.specs.declared.typed.TypedMethod.{TypedMethod}
 use Rattle.ecf_lang.specs.declared.tx.Tx.{Tx}
 use Rattle.ecf_lang.specs.declared.tx.TxCall.{TxCall}
+use Rattle.ecf_lang.specs.declared.limits.TheConstants.{MAX_FUEL}
 
 -- the method of that name in an object
 abbrev pub method_of : TypedObject → ℕ → Option TypedMethod
@@ -38,4 +39,4 @@ pub record Fits (typed : Typed) (tx : Tx) : Type 0 where
   pub few_calls : length tx.calls ≤ 8
   pub calls : All (CallFits typed) tx.calls
   pub some_fuel : 1 ≤ tx.fuel
-  pub fuel : tx.fuel ≤ 1000000
+  pub fuel : tx.fuel ≤ MAX_FUEL

@@ -3,6 +3,8 @@
 #![tactic(auto)]
 
 pub mod cell;
+pub mod costs;
+pub mod limits;
 pub mod name;
 pub mod receipt;
 pub mod run;

@@ -38,7 +38,7 @@ pub fn fits(typed: &Typed, tx: &Tx) -> bool
     1 <= calls.len()
         && calls.len() <= 8
         && 1 <= tx.fuel
-        && tx.fuel <= 1_000_000
+        && tx.fuel <= crate::limits::MAX_FUEL
         && calls.iter().all(|call| call_fits(typed, call))
 }
 

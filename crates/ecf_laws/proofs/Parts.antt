@@ -1,25 +1,21 @@
 -- What is kept by each way in which parts of a run are made holds of what every form does, on two stores at once.
-use Rattle.std.proofs.Common.{◌≡◌, ℕ, zero, suc, Bool, true, false, List, [], ◌∷◌, map, Option, Some, None, sym, subst}
-use Rattle.std.specs.Prelude.{Result, Ok, Err, if◌then◌else◌, length, nat_lt}
+use Rattle.std.proofs.Common.{ℕ, zero, suc, Bool, true, false, List, [], ◌∷◌, Option, Some, None}
+use Rattle.std.specs.Prelude.{if◌then◌else◌, length, nat_lt}
 use Rattle.ecf_lang.specs.declared.cell.Cell.{Cell}
 use Rattle.ecf_lang.specs.declared.run.Cause.{Cause}
-use Rattle.ecf_lang.specs.declared.run.Cause.TheVariants.{User, NoMethod, Depth, Calls}
-use Rattle.ecf_lang.specs.declared.tree.Op.{Op}
-use Rattle.ecf_lang.specs.declared.typed.Place.{Place}
-use Rattle.ecf_lang.specs.declared.typed.Place.TheVariants as place
-use Rattle.ecf_lang.specs.declared.typed.Assignee.{Assignee}
-use Rattle.ecf_lang.specs.declared.typed.Assignee.TheVariants as assignee
+use Rattle.ecf_lang.specs.declared.run.Cause.TheVariants.{NoMethod, Depth, Calls}
 use Rattle.ecf_lang.specs.declared.typed.Typed.{Typed}
 use Rattle.ecf_lang.specs.declared.typed.TypedMethod.{TypedMethod}
-use Rattle.ecf_lang.specs.declared.typed.TypedExpr.{TypedExpr, TypedExpr-F, roll-TypedExpr, fold-roll-TypedExpr, map-TypedExpr, ind-TypedExpr}
-use Rattle.ecf_lang.specs.declared.typed.TypedCall.{TypedCall, TypedCall-F, roll-TypedCall, fold-roll-TypedCall, map-TypedCall, ind-TypedCall}
-use Rattle.ecf_lang.specs.declared.typed.TypedStmt.{TypedStmt, TypedStmt-F, roll-TypedStmt, fold-roll-TypedStmt, map-TypedStmt, ind-TypedStmt}
-use Rattle.ecf_lang.specs.declared.typed.TypedBlock.{TypedBlock, TypedBlock-F, roll-TypedBlock, fold-roll-TypedBlock, map-TypedBlock, ind-TypedBlock}
+use Rattle.ecf_lang.specs.declared.typed.TypedExpr.{TypedExpr}
+use Rattle.ecf_lang.specs.declared.typed.TypedCall.{TypedCall}
+use Rattle.ecf_lang.specs.declared.typed.TypedStmt.{TypedStmt}
+use Rattle.ecf_lang.specs.declared.typed.TypedBlock.{TypedBlock}
 use Rattle.ecf_lang.specs.declared.tx.TxCall.{TxCall}
 use Rattle.ecf_lang.specs.Fits.{method_at}
 use Rattle.ecf_lang.specs.Store.{Store}
 use Rattle.ecf_lang.specs.Running.{State, Halts, RunsOut, Running, ◌>>=◌, pure, revert, pay, read_cell, write_cell, note, hearing, answering, begin, tried}
-use Rattle.ecf_lang.specs.Meaning.{Opens, Frame, Flow, On, Back, Doing, on, value_of, answer_of, expr_step, call_step, stmt_of, block_of, stmt_step, block_step, own, named, chain, all_true, any_true, first_then, each, at_zero, or_revert, applied, in_turn, flag_of, chosen, turns, assign, Ways, ways, deeper, invoke, body_of, opens_of, locals_of, answered, calls_of}
+use Rattle.ecf_laws.proofs.Frames as frames
+use Rattle.ecf_lang.specs.Meaning.{Opens, Frame, Flow, On, Back, Doing, on, value_of, answer_of, stmt_of, block_of, at_zero, turns, Ways, ways, deeper, invoke, body_of, opens_of, calls_of}
 
 -- the ways in which parts are made keep the relation: of a part in an invocation, or of one that is in none
 pub record Closed (A B : Store) (R : (T : Type 0) → Option ℕ → Running T → Running T → Type 0) : Type 1 where
@@ -38,193 +34,58 @@ pub record Closed (A B : Store) (R : (T : Type 0) → Option ℕ → Running T �
   pub widens : {T : Type 0} {o : Option ℕ} {m n : Running T} → R _ None m n → R _ o m n
 
 module _ (A B : Store) (R : (T : Type 0) → Option ℕ → Running T → Running T → Type 0) (closed : Closed A B R) where
-  or_reverts : {o : Option ℕ} (r : Result ℕ Cause) → R _ o (or_revert r) (or_revert r)
-  or_reverts (Ok v) = closed.pures v
-  or_reverts (Err cause) = closed.reverts cause
+  if_so : {T : Type 0} {o : Option ℕ} (b : Bool) {k l m n : Running T} → R _ o k l → R _ o m n → R _ o (if b then k else m) (if b then l else n)
+  if_so true h i = h
+  if_so false h i = i
 
   zero_or : {T : Type 0} {o : Option ℕ} (x : ℕ) {k l m n : Running T} → R _ o k l → R _ o m n → R _ o (at_zero x k m) (at_zero x l n)
   zero_or zero h i = h
   zero_or (suc x) h i = i
 
-  if_so : {T : Type 0} {o : Option ℕ} (b : Bool) {k l m n : Running T} → R _ o k l → R _ o m n → R _ o (if b then k else m) (if b then l else n)
-  if_so true h i = h
-  if_so false h i = i
-
   -- what the calls in a frame of that invocation do
-  pub record OpensAlike (inv : ℕ) (a b : Opens) : Type 0 where
-    pub inner : (name : ℕ) (args : List ℕ) → R _ (Some inv) (a.inner name args) (b.inner name args)
-    pub outer : (to name : ℕ) (args : List ℕ) → R _ (Some inv) (a.outer to name args) (b.outer to name args)
-    pub attempt : (to name : ℕ) (args : List ℕ) → R _ (Some inv) (a.attempt to name args) (b.attempt to name args)
+  abbrev pub OpensAlike : ℕ → Opens → Opens → Type 0
+  OpensAlike inv a b = frames.OpensAlike (λ T. R T (Some inv)) a b
 
-  module _ (here inv : ℕ) (a b : Opens) (opens : OpensAlike inv a b) where
-    abbrev f : Frame
-    f = record { here = here; inv = inv; opens = a }
+  module _ (here inv : ℕ) where
+    abbrev frame : Opens → Frame
+    frame opens = record { here = here; inv = inv; opens = opens }
 
-    abbrev g : Frame
-    g = record { here = here; inv = inv; opens = b }
-
-    abbrev Alike : {T : Type 0} → Running T → Running T → Type 0
-    Alike m n = R _ (Some inv) m n
-
-    module _ (locals : List ℕ) where
-      abbrev Value : TypedExpr → Type 0
-      Value e = Alike (value_of A f locals e) (value_of B g locals e)
-
-      abbrev Answer : TypedCall → Type 0
-      Answer c = Alike (answer_of A f locals c) (answer_of B g locals c)
-
-      chained : (x : ℕ) (rest : List (Op × ((e : TypedExpr) × Value e))) → Alike (chain A f x (map (λ (p : Op × TypedExpr). (p.0, value_of A f locals p.1)) (map (λ (p : Op × ((e : TypedExpr) × Value e)). (p.0, p.1.0)) rest))) (chain B g x (map (λ (p : Op × TypedExpr). (p.0, value_of B g locals p.1)) (map (λ (p : Op × ((e : TypedExpr) × Value e)). (p.0, p.1.0)) rest)))
-      chained x [] = closed.pures x
-      chained x (p ∷ rest) = closed.binds p.1.1 (λ y. closed.binds (closed.pays inv 1) (λ _. closed.binds (or_reverts (applied p.0 x y)) (λ z. chained z rest)))
-
-      all_trues : (x : ℕ) (es : List ((e : TypedExpr) × Value e)) → Alike (all_true A f x (map (value_of A f locals) (map (λ e. e.0) es))) (all_true B g x (map (value_of B g locals) (map (λ e. e.0) es)))
-      all_trues x [] = closed.pures x
-      all_trues x (e ∷ es) = closed.binds (closed.pays inv 1) (λ _. zero_or x (closed.pures x) (closed.binds e.1 (λ y. all_trues y es)))
-
-      any_trues : (x : ℕ) (es : List ((e : TypedExpr) × Value e)) → Alike (any_true A f x (map (value_of A f locals) (map (λ e. e.0) es))) (any_true B g x (map (value_of B g locals) (map (λ e. e.0) es)))
-      any_trues x [] = closed.pures x
-      any_trues x (e ∷ es) = closed.binds (closed.pays inv 1) (λ _. zero_or x (closed.binds e.1 (λ y. any_trues y es)) (closed.pures x))
-
-      eaches : (es : List ((e : TypedExpr) × Value e)) (j k : List ℕ → Running ℕ) → ((xs : List ℕ) → Alike (j xs) (k xs)) → Alike (each A f (map (value_of A f locals) (map (λ e. e.0) es)) j) (each B g (map (value_of B g locals) (map (λ e. e.0) es)) k)
-      eaches [] j k h = h []
-      eaches (e ∷ es) j k h = closed.binds e.1 (λ x. eaches es (λ xs. j (x ∷ xs)) (λ xs. k (x ∷ xs)) (λ xs. h (x ∷ xs)))
-
-      firsts_and : (es : List ((e : TypedExpr) × Value e)) → Alike (first_then A f (map (value_of A f locals) (map (λ e. e.0) es)) (all_true A f)) (first_then B g (map (value_of B g locals) (map (λ e. e.0) es)) (all_true B g))
-      firsts_and [] = closed.pures 0
-      firsts_and (e ∷ es) = closed.binds e.1 (λ x. all_trues x es)
-
-      firsts_or : (es : List ((e : TypedExpr) × Value e)) → Alike (first_then A f (map (value_of A f locals) (map (λ e. e.0) es)) (any_true A f)) (first_then B g (map (value_of B g locals) (map (λ e. e.0) es)) (any_true B g))
-      firsts_or [] = closed.pures 0
-      firsts_or (e ∷ es) = closed.binds e.1 (λ x. any_trues x es)
-
-      names : (p : Place) → Alike (named A f locals p) (named B g locals p)
-      names (place.Local n) = closed.binds (closed.pays inv 1) (λ _. closed.pures _)
-      names (place.Plain field) = closed.binds (closed.pays inv 3) (λ _. closed.reads inv (own A f field 0))
-      names (place.Object object) = closed.binds (closed.pays inv 1) (λ _. closed.pures object)
-
-      abbrev Parts : Type 0
-      Parts = TypedExpr-F ((c : TypedCall) × Answer c) ((e : TypedExpr) × Value e)
-
-      expr_layer : (y : Parts) → Alike (expr_step A f locals (map-TypedExpr _ _ _ _ (answer_of A f locals) (value_of A f locals) (map-TypedExpr _ _ _ _ (λ c. c.0) (λ e. e.0) y))) (expr_step B g locals (map-TypedExpr _ _ _ _ (answer_of B g locals) (value_of B g locals) (map-TypedExpr _ _ _ _ (λ c. c.0) (λ e. e.0) y)))
-      expr_layer (TypedExpr-F.Number v) = closed.binds (closed.pays inv 1) (λ _. closed.pures v)
-      expr_layer (TypedExpr-F.Flag v) = closed.binds (closed.pays inv 1) (λ _. closed.pures (flag_of v))
-      expr_layer TypedExpr-F.Here = closed.binds (closed.pays inv 1) (λ _. closed.pures here)
-      expr_layer (TypedExpr-F.Name p) = names p
-      expr_layer (TypedExpr-F.At field key) = closed.binds key.1 (λ k. closed.binds (closed.pays inv 3) (λ _. closed.reads inv (own A f field k)))
-      expr_layer (TypedExpr-F.Call call) = call.1
-      expr_layer (TypedExpr-F.Not e) = closed.binds e.1 (λ x. closed.binds (closed.pays inv 1) (λ _. closed.pures (at_zero x 1 0)))
-      expr_layer (TypedExpr-F.Product first rest) = closed.binds first.1 (λ x. chained x rest)
-      expr_layer (TypedExpr-F.Sum first rest) = closed.binds first.1 (λ x. chained x rest)
-      expr_layer (TypedExpr-F.Compare left op right) = closed.binds left.1 (λ x. closed.binds right.1 (λ y. closed.binds (closed.pays inv 1) (λ _. or_reverts (applied op x y))))
-      expr_layer (TypedExpr-F.And parts) = firsts_and parts
-      expr_layer (TypedExpr-F.Or parts) = firsts_or parts
-
-      call_layer : (y : TypedCall-F ((c : TypedCall) × Answer c) ((e : TypedExpr) × Value e)) → Alike (call_step A f (map-TypedCall _ _ _ _ (answer_of A f locals) (value_of A f locals) (map-TypedCall _ _ _ _ (λ c. c.0) (λ e. e.0) y))) (call_step B g (map-TypedCall _ _ _ _ (answer_of B g locals) (value_of B g locals) (map-TypedCall _ _ _ _ (λ c. c.0) (λ e. e.0) y)))
-      call_layer (TypedCall-F.External target name args) = closed.binds target.1 (λ to. eaches args _ _ (λ xs. closed.binds (closed.pays inv 11) (λ _. opens.outer to name xs)))
-      call_layer (TypedCall-F.Internal name args) = eaches args _ _ (λ xs. closed.binds (closed.pays inv 4) (λ _. opens.inner name xs))
-
-    expr_roll : (store : Store) (frame : Frame) (locals : List ℕ) (e : TypedExpr-F TypedCall TypedExpr) → value_of store frame locals (roll-TypedExpr e) ≡ expr_step store frame locals (map-TypedExpr _ _ _ _ (answer_of store frame locals) (value_of store frame locals) e)
-    unfolding value_of answer_of
-    expr_roll store frame locals e = fold-roll-TypedExpr (Running ℕ) (Running ℕ) (call_step store frame) (expr_step store frame locals) e
-
-    call_roll : (store : Store) (frame : Frame) (locals : List ℕ) (c : TypedCall-F TypedCall TypedExpr) → answer_of store frame locals (roll-TypedCall c) ≡ call_step store frame (map-TypedCall _ _ _ _ (answer_of store frame locals) (value_of store frame locals) c)
-    unfolding value_of answer_of
-    call_roll store frame locals c = fold-roll-TypedCall (Running ℕ) (Running ℕ) (call_step store frame) (expr_step store frame locals) c
-
-    expr_rolled : (locals : List ℕ) (l : TypedExpr-F TypedCall TypedExpr) → Alike (expr_step A f locals (map-TypedExpr _ _ _ _ (answer_of A f locals) (value_of A f locals) l)) (expr_step B g locals (map-TypedExpr _ _ _ _ (answer_of B g locals) (value_of B g locals) l)) → Value locals (roll-TypedExpr l)
-    expr_rolled locals l h = subst (λ m. Alike m (value_of B g locals (roll-TypedExpr l))) (sym (expr_roll A f locals l)) (subst (λ n. Alike (expr_step A f locals (map-TypedExpr _ _ _ _ (answer_of A f locals) (value_of A f locals) l)) n) (sym (expr_roll B g locals l)) h)
-
-    call_rolled : (locals : List ℕ) (l : TypedCall-F TypedCall TypedExpr) → Alike (call_step A f (map-TypedCall _ _ _ _ (answer_of A f locals) (value_of A f locals) l)) (call_step B g (map-TypedCall _ _ _ _ (answer_of B g locals) (value_of B g locals) l)) → Answer locals (roll-TypedCall l)
-    call_rolled locals l h = subst (λ m. Alike m (answer_of B g locals (roll-TypedCall l))) (sym (call_roll A f locals l)) (subst (λ n. Alike (call_step A f (map-TypedCall _ _ _ _ (answer_of A f locals) (value_of A f locals) l)) n) (sym (call_roll B g locals l)) h)
-
-    pub value_alike : (locals : List ℕ) (e : TypedExpr) → Value locals e
-    value_alike locals = ind-TypedExpr (Answer locals) (Value locals)
-        (λ x y is. subst (λ l. Answer locals (roll-TypedCall l)) is (call_rolled locals _ (call_layer locals y)))
-        (λ x y is. subst (λ l. Value locals (roll-TypedExpr l)) is (expr_rolled locals _ (expr_layer locals y)))
-
-    pub answer_alike : (locals : List ℕ) (c : TypedCall) → Answer locals c
-    answer_alike locals = ind-TypedCall (Answer locals) (Value locals)
-        (λ x y is. subst (λ l. Answer locals (roll-TypedCall l)) is (call_rolled locals _ (call_layer locals y)))
-        (λ x y is. subst (λ l. Value locals (roll-TypedExpr l)) is (expr_rolled locals _ (expr_layer locals y)))
-
-    abbrev DoesAlike : TypedStmt → Type 0
-    DoesAlike t = (locals : List ℕ) → Alike (stmt_of A f t locals) (stmt_of B g t locals)
-
-    abbrev BlockAlike : TypedBlock → Type 0
-    BlockAlike b = (locals : List ℕ) → Alike (block_of A f b locals) (block_of B g b locals)
-
-    on_alike : (flow : Flow) (d e : Doing) → ((locals : List ℕ) → Alike (d locals) (e locals)) → Alike (on flow d) (on flow e)
+    on_alike : (flow : Flow) (d e : Doing) → ((locals : List ℕ) → R _ (Some inv) (d locals) (e locals)) → R _ (Some inv) (on flow d) (on flow e)
     on_alike (On locals) d e h = h locals
     on_alike (Back v) d e h = closed.pures (Back v)
 
-    turn_alike : (stmts : List ((t : TypedStmt) × DoesAlike t)) (locals : List ℕ) → Alike (in_turn A f (map (stmt_of A f) (map (λ t. t.0) stmts)) locals) (in_turn B g (map (stmt_of B g) (map (λ t. t.0) stmts)) locals)
-    turn_alike [] locals = closed.pures (On locals)
-    turn_alike (t ∷ stmts) locals = closed.binds (t.1 locals) (λ flow. on_alike flow _ _ (λ after. turn_alike stmts after))
-
-    assign_alike : (to : Assignee) (v : ℕ) (locals : List ℕ) → Alike (assign A f to v locals) (assign B g to v locals)
-    assign_alike (assignee.Local n) v locals = closed.pures _
-    assign_alike (assignee.Plain field) v locals = closed.binds (closed.pays inv 4) (λ _. closed.binds (closed.writes inv (own A f field 0) v) (λ _. closed.pures (On locals)))
-
-    chosen_alike : (arms : List (TypedExpr × ((b : TypedBlock) × BlockAlike b))) (last other : Option Doing) → ((locals : List ℕ) → Alike (chosen A f [] last locals) (chosen B g [] other locals)) → (locals : List ℕ) → Alike
-        (chosen A f (map (λ (arm : TypedExpr × TypedBlock). (arm.0, block_of A f arm.1)) (map (λ (arm : TypedExpr × ((b : TypedBlock) × BlockAlike b)). (arm.0, arm.1.0)) arms)) last locals)
-        (chosen B g (map (λ (arm : TypedExpr × TypedBlock). (arm.0, block_of B g arm.1)) (map (λ (arm : TypedExpr × ((b : TypedBlock) × BlockAlike b)). (arm.0, arm.1.0)) arms)) other locals)
-    chosen_alike [] last other h locals = h locals
-    chosen_alike (arm ∷ arms) last other h locals = closed.binds (value_alike locals arm.0) (λ x. zero_or x (chosen_alike arms last other h locals) (arm.1.1 locals))
-
-    turns_alike : (n : ℕ) (cond : TypedExpr) (d e : Doing) → ((locals : List ℕ) → Alike (d locals) (e locals)) → (locals : List ℕ) → Alike (turns A f n cond d locals) (turns B g n cond e locals)
+    turns_alike : (a b : Opens) (cond : TypedExpr) (d e : Doing) → ((locals : List ℕ) → R _ (Some inv) (value_of A (frame a) locals cond) (value_of B (frame b) locals cond)) → ((locals : List ℕ) → R _ (Some inv) (d locals) (e locals)) → (n : ℕ) (locals : List ℕ) → R _ (Some inv) (turns A (frame a) n cond d locals) (turns B (frame b) n cond e locals)
     unfolding turns
-    turns_alike zero cond d e h locals = closed.ends
-    turns_alike (suc n) cond d e h locals = closed.binds (value_alike locals cond) (λ x. zero_or x (closed.pures (On locals)) (closed.binds (closed.pays inv 1) (λ _. closed.binds (h locals) (λ flow. on_alike flow _ _ (λ after. turns_alike n cond d e h after)))))
+    turns_alike a b cond d e conds bodies zero locals = closed.ends
+    turns_alike a b cond d e conds bodies (suc n) locals = closed.binds (conds locals) (λ x. zero_or x (closed.pures (On locals)) (closed.binds (closed.pays inv 1) (λ _. closed.binds (bodies locals) (λ flow. on_alike flow _ _ (λ after. turns_alike a b cond d e conds bodies n after)))))
 
-    args_alike : (locals : List ℕ) (es : List TypedExpr) (j k : List ℕ → Running ℕ) → ((xs : List ℕ) → Alike (j xs) (k xs)) → Alike (each A f (map (λ e. value_of A f locals e) es) j) (each B g (map (λ e. value_of B g locals e) es) k)
-    args_alike locals [] j k h = h []
-    args_alike locals (e ∷ es) j k h = closed.binds (value_alike locals e) (λ x. args_alike locals es (λ xs. j (x ∷ xs)) (λ xs. k (x ∷ xs)) (λ xs. h (x ∷ xs)))
+    -- the ways in which parts are made in a frame keep the relation
+    in_frame : frames.Closed A B here inv inv (λ T. R T (Some inv))
+    in_frame = record {
+      pures = λ x. closed.pures x;
+      reverts = λ cause. closed.reverts cause;
+      binds = λ h k. closed.binds h k;
+      pays = λ n. closed.pays inv n;
+      reads = λ field key. closed.reads inv (record { object = here; field = field; key = key });
+      writes = λ field key value. closed.writes inv (record { object = here; field = field; key = key }) value;
+      loops = λ a b cond d e conds bodies locals. closed.looks (λ s. turns_alike a b cond d e conds bodies (suc s.fuel) locals);
+    }
 
-    abbrev StmtParts : Type 0
-    StmtParts = TypedStmt-F ((t : TypedStmt) × DoesAlike t) ((b : TypedBlock) × BlockAlike b)
+    module _ (a b : Opens) (opens : OpensAlike inv a b) where
+      pub value_alike : (locals : List ℕ) (e : TypedExpr) → R _ (Some inv) (value_of A (frame a) locals e) (value_of B (frame b) locals e)
+      value_alike = frames.value_alike A B here inv inv (λ T. R T (Some inv)) in_frame a b opens
 
-    stmt_layer : (y : StmtParts) (locals : List ℕ) → Alike (stmt_step A f (map-TypedStmt _ _ _ _ (stmt_of A f) (block_of A f) (map-TypedStmt _ _ _ _ (λ t. t.0) (λ b. b.0) y)) locals) (stmt_step B g (map-TypedStmt _ _ _ _ (stmt_of B g) (block_of B g) (map-TypedStmt _ _ _ _ (λ t. t.0) (λ b. b.0) y)) locals)
-    stmt_layer (TypedStmt-F.Let n ty e) locals = closed.binds (closed.pays inv 1) (λ _. closed.binds (value_alike locals e) (λ v. closed.pures _))
-    stmt_layer (TypedStmt-F.Try n target name args) locals = closed.binds (closed.pays inv 1) (λ _. closed.binds (value_alike locals target) (λ to. closed.binds (args_alike locals args _ _ (λ xs. closed.binds (closed.pays inv 11) (λ _. opens.attempt to name xs))) (λ v. closed.pures _)))
-    stmt_layer (TypedStmt-F.Set to e) locals = closed.binds (closed.pays inv 1) (λ _. closed.binds (value_alike locals e) (λ v. assign_alike to v locals))
-    stmt_layer (TypedStmt-F.SetAt field key e) locals = closed.binds (closed.pays inv 1) (λ _. closed.binds (value_alike locals key) (λ k. closed.binds (value_alike locals e) (λ v. closed.binds (closed.pays inv 4) (λ _. closed.binds (closed.writes inv (own A f field k) v) (λ _. closed.pures (On locals))))))
-    stmt_layer (TypedStmt-F.If arms None) locals = closed.binds (closed.pays inv 1) (λ _. chosen_alike arms None None (λ after. closed.pures (On after)) locals)
-    stmt_layer (TypedStmt-F.If arms (Some last)) locals = closed.binds (closed.pays inv 1) (λ _. chosen_alike arms (Some (block_of A f last.0)) (Some (block_of B g last.0)) last.1 locals)
-    stmt_layer (TypedStmt-F.While cond body) locals = closed.binds (closed.pays inv 1) (λ _. closed.looks (λ s. turns_alike (suc s.fuel) cond _ _ body.1 locals))
-    stmt_layer (TypedStmt-F.Return e) locals = closed.binds (closed.pays inv 1) (λ _. closed.binds (value_alike locals e) (λ v. closed.pures (Back v)))
-    stmt_layer (TypedStmt-F.Revert e) locals = closed.binds (closed.pays inv 1) (λ _. closed.binds (value_alike locals e) (λ v. closed.reverts (User v)))
-    stmt_layer (TypedStmt-F.Do call) locals = closed.binds (closed.pays inv 1) (λ _. closed.binds (answer_alike locals call) (λ _. closed.pures (On locals)))
+      pub answer_alike : (locals : List ℕ) (c : TypedCall) → R _ (Some inv) (answer_of A (frame a) locals c) (answer_of B (frame b) locals c)
+      answer_alike = frames.answer_alike A B here inv inv (λ T. R T (Some inv)) in_frame a b opens
 
-    block_layer : (y : TypedBlock-F ((t : TypedStmt) × DoesAlike t) ((b : TypedBlock) × BlockAlike b)) (locals : List ℕ) → Alike (block_step A f (map-TypedBlock _ _ _ _ (stmt_of A f) (block_of A f) (map-TypedBlock _ _ _ _ (λ t. t.0) (λ b. b.0) y)) locals) (block_step B g (map-TypedBlock _ _ _ _ (stmt_of B g) (block_of B g) (map-TypedBlock _ _ _ _ (λ t. t.0) (λ b. b.0) y)) locals)
-    block_layer y locals = turn_alike y.stmts locals
+      pub stmt_alike : (t : TypedStmt) (locals : List ℕ) → R _ (Some inv) (stmt_of A (frame a) t locals) (stmt_of B (frame b) t locals)
+      stmt_alike = frames.stmt_alike A B here inv inv (λ T. R T (Some inv)) in_frame a b opens
 
-    stmt_roll : (store : Store) (frame : Frame) (t : TypedStmt-F TypedStmt TypedBlock) → stmt_of store frame (roll-TypedStmt t) ≡ stmt_step store frame (map-TypedStmt _ _ _ _ (stmt_of store frame) (block_of store frame) t)
-    unfolding stmt_of block_of
-    stmt_roll store frame t = fold-roll-TypedStmt Doing Doing (stmt_step store frame) (block_step store frame) t
+      pub block_alike : (t : TypedBlock) (locals : List ℕ) → R _ (Some inv) (block_of A (frame a) t locals) (block_of B (frame b) t locals)
+      block_alike = frames.block_alike A B here inv inv (λ T. R T (Some inv)) in_frame a b opens
 
-    block_roll : (store : Store) (frame : Frame) (b : TypedBlock-F TypedStmt TypedBlock) → block_of store frame (roll-TypedBlock b) ≡ block_step store frame (map-TypedBlock _ _ _ _ (stmt_of store frame) (block_of store frame) b)
-    unfolding stmt_of block_of
-    block_roll store frame b = fold-roll-TypedBlock Doing Doing (stmt_step store frame) (block_step store frame) b
-
-    stmt_rolled : (l : TypedStmt-F TypedStmt TypedBlock) → ((locals : List ℕ) → Alike (stmt_step A f (map-TypedStmt _ _ _ _ (stmt_of A f) (block_of A f) l) locals) (stmt_step B g (map-TypedStmt _ _ _ _ (stmt_of B g) (block_of B g) l) locals)) → DoesAlike (roll-TypedStmt l)
-    stmt_rolled l h locals = subst (λ (d : Doing). Alike (d locals) (stmt_of B g (roll-TypedStmt l) locals)) (sym (stmt_roll A f l)) (subst (λ (e : Doing). Alike (stmt_step A f (map-TypedStmt _ _ _ _ (stmt_of A f) (block_of A f) l) locals) (e locals)) (sym (stmt_roll B g l)) (h locals))
-
-    block_rolled : (l : TypedBlock-F TypedStmt TypedBlock) → ((locals : List ℕ) → Alike (block_step A f (map-TypedBlock _ _ _ _ (stmt_of A f) (block_of A f) l) locals) (block_step B g (map-TypedBlock _ _ _ _ (stmt_of B g) (block_of B g) l) locals)) → BlockAlike (roll-TypedBlock l)
-    block_rolled l h locals = subst (λ (d : Doing). Alike (d locals) (block_of B g (roll-TypedBlock l) locals)) (sym (block_roll A f l)) (subst (λ (e : Doing). Alike (block_step A f (map-TypedBlock _ _ _ _ (stmt_of A f) (block_of A f) l) locals) (e locals)) (sym (block_roll B g l)) (h locals))
-
-    pub stmt_alike : (t : TypedStmt) → DoesAlike t
-    stmt_alike = ind-TypedStmt DoesAlike BlockAlike
-        (λ x y is. subst (λ l. DoesAlike (roll-TypedStmt l)) is (stmt_rolled _ (stmt_layer y)))
-        (λ x y is. subst (λ l. BlockAlike (roll-TypedBlock l)) is (block_rolled _ (block_layer y)))
-
-    pub block_alike : (b : TypedBlock) → BlockAlike b
-    block_alike = ind-TypedBlock DoesAlike BlockAlike
-        (λ x y is. subst (λ l. DoesAlike (roll-TypedStmt l)) is (stmt_rolled _ (stmt_layer y)))
-        (λ x y is. subst (λ l. BlockAlike (roll-TypedBlock l)) is (block_rolled _ (block_layer y)))
-
-    pub body_alike : (method : Option TypedMethod) (args : List ℕ) → Alike (body_of A f method args) (body_of B g method args)
-    body_alike None args = closed.reverts NoMethod
-    body_alike (Some method) args = closed.binds (block_alike method.body (locals_of method args)) (λ flow. closed.pures (answered flow))
+      pub body_alike : (method : Option TypedMethod) (args : List ℕ) → R _ (Some inv) (body_of A (frame a) method args) (body_of B (frame b) method args)
+      body_alike = frames.body_alike A B here inv inv (λ T. R T (Some inv)) in_frame a b opens
 
   -- how methods are entered
   pub record WaysAlike (v w : Ways) : Type 0 where

@@ -53,7 +53,7 @@ placed_in t (suc n) u i h = go (cases_next (next_placed t u)) (λ m. placed_in t
           | inr k ↦ (In_without m u i (deep m k)).0
         ]
 
-placed_distinct : (t : List Step) (n : ℕ) (u : List ℕ) → Pairs (λ i j. i ≢ j) (place t n u).placed
+pub placed_distinct : (t : List Step) (n : ℕ) (u : List ℕ) → Pairs (λ i j. i ≢ j) (place t n u).placed
 unfolding place
 placed_distinct t zero u = tt
 placed_distinct t (suc n) u = go (cases_next (next_placed t u)) (λ m. placed_distinct t n (without m u))

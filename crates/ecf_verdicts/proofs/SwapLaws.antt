@@ -23,7 +23,7 @@ swaps_permute t places u e = swaps_keep (λ t u. IsPermutation t u)
     (λ t u v h k. IsPermutation-trans t u v h k)
     places t u e
 
-other_inv : (a b : Step) → may_swap a b ≡ true → a.inv ≡ b.inv → ⊥
+pub other_inv : (a b : Step) → may_swap a b ≡ true → a.inv ≡ b.inv → ⊥
 unfolding may_swap
 other_inv a b e same = both_ways (eqb a.inv b.inv) (not-true _ (and_parts _ _ e).0) (eq-eqb a.inv b.inv same)
 
@@ -40,7 +40,7 @@ swaps_keep_invocations t places u e i = swaps_keep (λ t u. filter (λ (s : Step
     (λ t u v h k. k ∙ h)
     places t u e
 
-same_cell_parts : (a b : Cell) → same_cell a b ≡ true → (a.object ≡ b.object) × (a.field ≡ b.field) × (a.key ≡ b.key)
+pub same_cell_parts : (a b : Cell) → same_cell a b ≡ true → (a.object ≡ b.object) × (a.field ≡ b.field) × (a.key ≡ b.key)
 unfolding same_cell
 same_cell_parts a b e = let p = and_parts _ _ e in let q = and_parts _ _ p.1 in (eqb-true _ _ p.0, eqb-true _ _ q.0, eqb-true _ _ q.1)
 
@@ -76,7 +76,7 @@ swaps_keep_writes t places u e c = swaps_keep (λ t u. filter (λ (s : Step). s.
 pub swaps_keep_before : SwapsKeepBefore
 swaps_keep_before t places u e i j = sym ((swaps_alike places t u e).1 i j)
 
-may_swap_sym : (a b : Step) → may_swap a b ≡ may_swap b a
+pub may_swap_sym : (a b : Step) → may_swap a b ≡ may_swap b a
 unfolding may_swap
 may_swap_sym a b = rw (eqb_sym a.inv b.inv, conflicts_sym a b) refl
 

@@ -1,0 +1,10 @@
+pub mod Blocks
+pub mod Echo
+pub mod Fields
+pub mod Loops
+pub mod Pieces
+pub mod Rooms
+pub mod Single
+pub mod Swapping
+pub mod Together
+pub mod Tracing
