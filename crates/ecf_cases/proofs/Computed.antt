@@ -10,8 +10,8 @@ use Rattle.ecf_lang.specs.declared.tx.Tx.{Tx}
 use Rattle.ecf_lang.specs.declared.tx.TxCall.{TxCall}
 use Rattle.ecf_lang.specs.Store.{Store}
 use Rattle.ecf_lang.specs.Fits.{method_at}
-use Rattle.ecf_lang.specs.Running.{Running, ◌>>=◌, ◌>>◌, pure, revert, note, answering, begin}
-use Rattle.ecf_lang.specs.Meaning.{Frame, Doing, block_of, answered, locals_of, body_of, Ways, frame_of, invoke, deeper, ways, calls_of, fresh, Ran, ran, run}
+use Rattle.ecf_lang.specs.Part.{Part, ◌>>=◌, ◌>>◌, pure, revert, note, with_answer, begin}
+use Rattle.ecf_lang.specs.Meaning.{Frame, Action, block_of, flow_answer, locals_of, body_of, Ways, frame_of, invoke, one_deeper, ways, calls_of, initial_state, RunResult, result_of, run}
 use Rattle.ecf_lang.specs.Alone.{Lone, lone_of, lone_frame, inside, alone}
 use Rattle.ecf_cases.proofs.Evaluation.{Block, block_does, block_does_is, forms}
 
@@ -27,12 +27,12 @@ pub data Objects : List TypedObject → Type 0 where
 
 -- a method, and what its body does
 abbrev pub Method : Type 0
-Method = TypedMethod × (Store → Frame → Doing)
+Method = TypedMethod × (Store → Frame → Action)
 
 -- a method and the same with what its body does, or neither
 data Pairs : Option TypedMethod → Option Method → Type 0 where
   neither : Pairs None None
-  both : (m : TypedMethod) (d : Store → Frame → Doing) → ((store : Store) (frame : Frame) → block_of store frame m.body ≡ d store frame) → Pairs (Some m) (Some (m, d))
+  both : (m : TypedMethod) (d : Store → Frame → Action) → ((store : Store) (frame : Frame) → block_of store frame m.body ≡ d store frame) → Pairs (Some m) (Some (m, d))
 
 abbrev found : {ms : List TypedMethod} → Methods ms → ℕ → Option Method
 found no_method name = None
@@ -59,24 +59,24 @@ located_pairs no_object n name = neither
 located_pairs (objects ms os) zero name = found_pairs ms name
 located_pairs (objects ms os) (suc n) name = located_pairs os n name
 
-abbrev body_does : Store → Frame → Option Method → List ℕ → Running ℕ
+abbrev body_does : Store → Frame → Option Method → List ℕ → Part ℕ
 body_does store frame None args = revert NoMethod
-body_does store frame (Some method) args = method.1 store frame (locals_of method.0 args) >>= (λ flow. pure (answered flow))
+body_does store frame (Some method) args = method.1 store frame (locals_of method.0 args) >>= (λ flow. pure (flow_answer flow))
 
 body_is : (store : Store) (frame : Frame) (args : List ℕ) {a : Option TypedMethod} {b : Option Method} → Pairs a b → body_of store frame a args ≡ body_does store frame b args
 body_is store frame args neither = refl
-body_is store frame args (both m d is) = λ i. is store frame i (locals_of m args) >>= (λ flow. pure (answered flow))
+body_is store frame args (both m d is) = λ i. is store frame i (locals_of m args) >>= (λ flow. pure (flow_answer flow))
 
 module _ (typed : Typed) (x : Objects typed.objects) (store : Store) where
-  abbrev invoke_does : Ways → ℕ → Option Method → ℕ → List ℕ → Running ℕ
+  abbrev invoke_does : Ways → ℕ → Option Method → ℕ → List ℕ → Part ℕ
   invoke_does w to None name args = revert NoMethod
   invoke_does w to (Some method) name args =
-      begin to name args >>= (λ inv. body_does store (frame_of typed store w to inv) (Some method) args >>= (λ v. note (answering v) inv >> pure v))
+      begin to name args >>= (λ inv. body_does store (frame_of typed store w to inv) (Some method) args >>= (λ v. note (with_answer v) inv >> pure v))
 
   invoke_is : (w : Ways) (to name : ℕ) (args : List ℕ) {a : Option TypedMethod} {b : Option Method} → Pairs a b → invoke typed store w to a name args ≡ invoke_does w to b name args
   invoke_is w to name args neither = refl
   invoke_is w to name args (both m d is) =
-      λ i. begin to name args >>= (λ inv. body_is store (frame_of typed store w to inv) args (both m d is) i >>= (λ v. note (answering v) inv >> pure v))
+      λ i. begin to name args >>= (λ inv. body_is store (frame_of typed store w to inv) args (both m d is) i >>= (λ v. note (with_answer v) inv >> pure v))
 
   abbrev deeper_does : Ways → Ways
   deeper_does w = record {
@@ -84,7 +84,7 @@ module _ (typed : Typed) (x : Objects typed.objects) (store : Store) where
     anew = λ to name args state. (if nat_lt (length state.invocations) 1024 then invoke_does w to (located x to name) name args else revert Calls) state;
   }
 
-  deeper_is : (w : Ways) → deeper typed store w ≡ deeper_does w
+  deeper_is : (w : Ways) → one_deeper typed store w ≡ deeper_does w
   deeper_is w = λ i. record {
     within = λ here inv name args. body_is store (frame_of typed store w here inv) args (located_pairs x here name) i;
     anew = λ to name args state. (if nat_lt (length state.invocations) 1024 then invoke_is w to name args (located_pairs x to name) i else revert Calls) state;
@@ -99,7 +99,7 @@ module _ (typed : Typed) (x : Objects typed.objects) (store : Store) where
   ways_are zero = refl
   ways_are (suc room) = deeper_is (ways typed store room) ∙ ap deeper_does (ways_are room)
 
-  abbrev calls_do : Ways → List TxCall → Running ℕ
+  abbrev calls_do : Ways → List TxCall → Part ℕ
   calls_do w [] = pure 0
   calls_do w (call ∷ []) = w.anew call.object call.method call.args
   calls_do w (call ∷ next ∷ calls) = w.anew call.object call.method call.args >> calls_do w (next ∷ calls)
@@ -109,16 +109,16 @@ module _ (typed : Typed) (x : Objects typed.objects) (store : Store) where
   calls_are (call ∷ []) = refl
   calls_are (call ∷ next ∷ calls) = λ i. (ways typed store 64).anew call.object call.method call.args >> calls_are (next ∷ calls) i
 
-  abbrev run_does : Tx → Ran
-  run_does tx = ran store tx.fuel (calls_do (ways_do 64) tx.calls (fresh tx.fuel))
+  abbrev run_does : Tx → RunResult
+  run_does tx = result_of store tx.fuel (calls_do (ways_do 64) tx.calls (initial_state tx.fuel))
 
   -- a run is what its forms do
   pub run_is : (tx : Tx) → run typed store tx ≡ run_does tx
   unfolding run
-  run_is tx = λ i. ran store tx.fuel ((calls_are tx.calls ∙ ap (λ w. calls_do w tx.calls) (ways_are 64)) i (fresh tx.fuel))
+  run_is tx = λ i. result_of store tx.fuel ((calls_are tx.calls ∙ ap (λ w. calls_do w tx.calls) (ways_are 64)) i (initial_state tx.fuel))
 
 module _ (typed : Typed) (x : Objects typed.objects) (fields : Store) (invocation : Invocation) where
-  abbrev inside_does : ℕ → ℕ → List ℕ → Running ℕ
+  abbrev inside_does : ℕ → ℕ → List ℕ → Part ℕ
   inside_does zero name args = revert Depth
   inside_does (suc room) name args =
       body_does fields (lone_frame typed fields invocation (inside_does room)) (located x invocation.object name) args
@@ -132,15 +132,15 @@ module _ (typed : Typed) (x : Objects typed.objects) (fields : Store) (invocatio
 
   abbrev alone_does : ℕ → Lone
   alone_does inv =
-      lone_of inv (ran fields invocation.own_fuel (
-      (begin invocation.object invocation.method invocation.args >>= (λ n. inside_does 64 invocation.method invocation.args)) (fresh invocation.own_fuel)))
+      lone_of inv (result_of fields invocation.own_fuel (
+      (begin invocation.object invocation.method invocation.args >>= (λ n. inside_does 64 invocation.method invocation.args)) (initial_state invocation.own_fuel)))
 
   -- a run of an invocation alone is what its forms do
   pub alone_is : (inv : ℕ) → alone typed inv invocation fields ≡ alone_does inv
   unfolding alone
   alone_is inv =
-      λ i. lone_of inv (ran fields invocation.own_fuel (
-      (begin invocation.object invocation.method invocation.args >>= (λ n. inside_is 64 i invocation.method invocation.args)) (fresh invocation.own_fuel)))
+      λ i. lone_of inv (result_of fields invocation.own_fuel (
+      (begin invocation.object invocation.method invocation.args >>= (λ n. inside_is 64 i invocation.method invocation.args)) (initial_state invocation.own_fuel)))
 
 -- all the ways in which a contract is built, for `search`
 pub ruleset contracts = (forms, no_method, methods, no_object, objects)

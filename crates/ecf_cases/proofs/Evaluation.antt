@@ -14,8 +14,8 @@ use Rattle.ecf_lang.specs.declared.typed.TypedStmt.{TypedStmt, TypedStmt-F, roll
 use Rattle.ecf_lang.specs.declared.typed.TypedStmt.TheVariants as stmt
 use Rattle.ecf_lang.specs.declared.typed.TypedBlock.{TypedBlock, roll-TypedBlock, fold-roll-TypedBlock}
 use Rattle.ecf_lang.specs.Store.{Store}
-use Rattle.ecf_lang.specs.Running.{Running, Halts, RunsOut, after, ◌>>=◌, ◌>>◌, pure, revert, write_cell}
-use Rattle.ecf_lang.specs.Meaning.{Frame, On, Back, Doing, on, value_of, answer_of, expr_step, call_step, stmt_of, block_of, stmt_step, block_step, charge, own, each, at_zero, in_turn, chosen, turns, assign}
+use Rattle.ecf_lang.specs.Part.{Part, Exit, RunsOut, after, ◌>>=◌, ◌>>◌, pure, revert, write_cell}
+use Rattle.ecf_lang.specs.Meaning.{Frame, Continues, Returns, Action, go_on, value_of, answer_of, expr_step, call_step, stmt_of, block_of, stmt_step, block_step, charge, own_cell, each, at_zero, sequence, branch, turns, assign}
 
 mutual
   -- an expression, and how it is built
@@ -79,7 +79,7 @@ mutual
 module _ (store : Store) (frame : Frame) where
   module _ (locals : List ℕ) where
     abbrev mutual
-      pub expr_does : {e : TypedExpr} → Expr e → Running ℕ
+      pub expr_does : {e : TypedExpr} → Expr e → Part ℕ
       expr_does (number v) = expr_step store frame locals (TypedExpr-F.Number v)
       expr_does (flag b) = expr_step store frame locals (TypedExpr-F.Flag b)
       expr_does here = expr_step store frame locals TypedExpr-F.Here
@@ -93,31 +93,31 @@ module _ (store : Store) (frame : Frame) where
       expr_does (both xs) = expr_step store frame locals (TypedExpr-F.And (exprs_do xs))
       expr_does (either xs) = expr_step store frame locals (TypedExpr-F.Or (exprs_do xs))
 
-      pub exprs_do : {es : List TypedExpr} → Exprs es → List (Running ℕ)
+      pub exprs_do : {es : List TypedExpr} → Exprs es → List (Part ℕ)
       exprs_do no_expr = []
       exprs_do (exprs x xs) = expr_does x ∷ exprs_do xs
 
-      pub rest_does : {es : List (Op × TypedExpr)} → Rest es → List (Op × Running ℕ)
+      pub rest_does : {es : List (Op × TypedExpr)} → Rest es → List (Op × Part ℕ)
       rest_does no_rest = []
       rest_does (rest op x r) = (op, expr_does x) ∷ rest_does r
 
-      pub call_does : {c : TypedCall} → Call c → Running ℕ
+      pub call_does : {c : TypedCall} → Call c → Part ℕ
       call_does (external n t xs) = call_step store frame (TypedCall-F.External (expr_does t) n (exprs_do xs))
       call_does (internal n xs) = call_step store frame (TypedCall-F.Internal n (exprs_do xs))
 
-    abbrev value : TypedExpr → Running ℕ
+    abbrev value : TypedExpr → Part ℕ
     value e = value_of store frame locals e
 
-    abbrev answer : TypedCall → Running ℕ
+    abbrev answer : TypedCall → Part ℕ
     answer c = answer_of store frame locals c
 
-    by_expr : {e : TypedExpr} (f : TypedExpr-F TypedCall TypedExpr) {r : Running ℕ} → roll-TypedExpr f ≡ e → expr_step store frame locals (map-TypedExpr _ _ _ _ answer value f) ≡ r → value e ≡ r
+    by_expr : {e : TypedExpr} (f : TypedExpr-F TypedCall TypedExpr) {r : Part ℕ} → roll-TypedExpr f ≡ e → expr_step store frame locals (map-TypedExpr _ _ _ _ answer value f) ≡ r → value e ≡ r
     unfolding value_of answer_of
-    by_expr f is does = ap value (sym is) ∙ fold-roll-TypedExpr (Running ℕ) (Running ℕ) (call_step store frame) (expr_step store frame locals) f ∙ does
+    by_expr f is does = ap value (sym is) ∙ fold-roll-TypedExpr (Part ℕ) (Part ℕ) (call_step store frame) (expr_step store frame locals) f ∙ does
 
-    by_call : {c : TypedCall} (f : TypedCall-F TypedCall TypedExpr) {r : Running ℕ} → roll-TypedCall f ≡ c → call_step store frame (map-TypedCall _ _ _ _ answer value f) ≡ r → answer c ≡ r
+    by_call : {c : TypedCall} (f : TypedCall-F TypedCall TypedExpr) {r : Part ℕ} → roll-TypedCall f ≡ c → call_step store frame (map-TypedCall _ _ _ _ answer value f) ≡ r → answer c ≡ r
     unfolding value_of answer_of
-    by_call f is does = ap answer (sym is) ∙ fold-roll-TypedCall (Running ℕ) (Running ℕ) (call_step store frame) (expr_step store frame locals) f ∙ does
+    by_call f is does = ap answer (sym is) ∙ fold-roll-TypedCall (Part ℕ) (Part ℕ) (call_step store frame) (expr_step store frame locals) f ∙ does
 
     mutual
       pub expr_is : {e : TypedExpr} (x : Expr e) → value e ≡ expr_does x
@@ -148,12 +148,12 @@ module _ (store : Store) (frame : Frame) where
 
   -- a value at given locals
   abbrev Value : Type 0
-  Value = List ℕ → Running ℕ
+  Value = List ℕ → Part ℕ
 
   abbrev value_of_expr : {e : TypedExpr} → Expr e → Value
   value_of_expr x locals = expr_does locals x
 
-  abbrev values_of : {es : List TypedExpr} → Exprs es → List ℕ → List (Running ℕ)
+  abbrev values_of : {es : List TypedExpr} → Exprs es → List ℕ → List (Part ℕ)
   values_of xs locals = exprs_do locals xs
 
   expr_at : {e : TypedExpr} (x : Expr e) → (λ locals. value_of store frame locals e) ≡ value_of_expr x
@@ -162,51 +162,51 @@ module _ (store : Store) (frame : Frame) where
   exprs_at : {es : List TypedExpr} (xs : Exprs es) → (λ locals. map (λ e. value_of store frame locals e) es) ≡ values_of xs
   exprs_at xs = λ i locals. exprs_are locals xs i
 
-  abbrev do_let : ℕ → Value → Doing
-  do_let n v locals = charge store frame 1 >> (v locals >>= (λ x. pure (On (slice_set locals n x))))
+  abbrev do_let : ℕ → Value → Action
+  do_let n v locals = charge store frame 1 >> (v locals >>= (λ x. pure (Continues (slice_set locals n x))))
 
-  abbrev do_try : ℕ → ℕ → Value → (List ℕ → List (Running ℕ)) → Doing
+  abbrev do_try : ℕ → ℕ → Value → (List ℕ → List (Part ℕ)) → Action
   do_try n m target args locals =
       charge store frame 1 >> (target locals >>= (λ to.
       each store frame (args locals) (λ xs. charge store frame 11 >> frame.opens.attempt to m xs) >>= (λ v.
-      pure (On (slice_set locals n v)))))
+      pure (Continues (slice_set locals n v)))))
 
-  abbrev do_set : Assignee → Value → Doing
+  abbrev do_set : Assignee → Value → Action
   do_set to v locals = charge store frame 1 >> (v locals >>= (λ x. assign store frame to x locals))
 
-  abbrev do_set_at : ℕ → Value → Value → Doing
+  abbrev do_set_at : ℕ → Value → Value → Action
   do_set_at field key v locals =
       charge store frame 1 >> (key locals >>= (λ k. v locals >>= (λ x.
-      charge store frame 4 >> (write_cell frame.inv (own store frame field k) x >> pure (On locals)))))
+      charge store frame 4 >> (write_cell frame.inv (own_cell store frame field k) x >> pure (Continues locals)))))
 
-  abbrev do_chosen : List (Value × Doing) → Option Doing → Doing
-  do_chosen [] None locals = pure (On locals)
+  abbrev do_chosen : List (Value × Action) → Option Action → Action
+  do_chosen [] None locals = pure (Continues locals)
   do_chosen [] (Some last) locals = last locals
   do_chosen ((cond, body) ∷ others) last locals =
       cond locals >>= (λ x. at_zero x (do_chosen others last locals) (body locals))
 
-  abbrev do_if : List (Value × Doing) → Option Doing → Doing
+  abbrev do_if : List (Value × Action) → Option Action → Action
   do_if a last locals = charge store frame 1 >> do_chosen a last locals
 
-  abbrev do_turns : ℕ → Value → Doing → Doing
-  do_turns zero cond body locals state = Halts RunsOut (record state { fuel = 0 })
+  abbrev do_turns : ℕ → Value → Action → Action
+  do_turns zero cond body locals state = Exit RunsOut (record state { fuel = 0 })
   do_turns (suc n) cond body locals state =
-      after (cond locals state) (λ x. at_zero x (pure (On locals)) (charge store frame 1 >> (body locals >>= (λ flow. on flow (do_turns n cond body)))))
+      after (cond locals state) (λ x. at_zero x (pure (Continues locals)) (charge store frame 1 >> (body locals >>= (λ flow. go_on flow (do_turns n cond body)))))
 
-  abbrev do_while : Value → Doing → Doing
+  abbrev do_while : Value → Action → Action
   do_while cond body locals = charge store frame 1 >> (λ state. do_turns (suc state.fuel) cond body locals state)
 
-  abbrev do_return : Value → Doing
-  do_return v locals = charge store frame 1 >> (v locals >>= (λ x. pure (Back x)))
+  abbrev do_return : Value → Action
+  do_return v locals = charge store frame 1 >> (v locals >>= (λ x. pure (Returns x)))
 
-  abbrev do_revert : Value → Doing
+  abbrev do_revert : Value → Action
   do_revert v locals = charge store frame 1 >> (v locals >>= (λ x. revert (User x)))
 
-  abbrev do_call : Value → Doing
-  do_call v locals = charge store frame 1 >> (v locals >>= (λ x. pure (On locals)))
+  abbrev do_call : Value → Action
+  do_call v locals = charge store frame 1 >> (v locals >>= (λ x. pure (Continues locals)))
 
   abbrev mutual
-    pub stmt_does : {t : TypedStmt} → Stmt t → Doing
+    pub stmt_does : {t : TypedStmt} → Stmt t → Action
     stmt_does (let_local n ty x) = do_let n (value_of_expr x)
     stmt_does (let_try n m t xs) = do_try n m (value_of_expr t) (values_of xs)
     stmt_does (set to x) = do_set to (value_of_expr x)
@@ -218,42 +218,42 @@ module _ (store : Store) (frame : Frame) where
     stmt_does (reverted x) = do_revert (value_of_expr x)
     stmt_does (call_only c) = do_call (λ locals. call_does locals c)
 
-    pub stmts_do : {ts : List TypedStmt} → Stmts ts → List Doing
+    pub stmts_do : {ts : List TypedStmt} → Stmts ts → List Action
     stmts_do no_stmt = []
     stmts_do (stmts t ts) = stmt_does t ∷ stmts_do ts
 
-    pub block_does : {b : TypedBlock} → Block b → Doing
-    block_does (block ts) = in_turn store frame (stmts_do ts)
+    pub block_does : {b : TypedBlock} → Block b → Action
+    block_does (block ts) = sequence store frame (stmts_do ts)
 
-    pub arms_do : {a : List (TypedExpr × TypedBlock)} → Arms a → List (Value × Doing)
+    pub arms_do : {a : List (TypedExpr × TypedBlock)} → Arms a → List (Value × Action)
     arms_do no_arm = []
     arms_do (arms c b a) = (value_of_expr c, block_does b) ∷ arms_do a
 
-  abbrev does : TypedStmt → Doing
+  abbrev does : TypedStmt → Action
   does t = stmt_of store frame t
 
-  abbrev block_doing : TypedBlock → Doing
+  abbrev block_doing : TypedBlock → Action
   block_doing b = block_of store frame b
 
-  by_stmt : {t : TypedStmt} (f : TypedStmt-F TypedStmt TypedBlock) {r : Doing} → roll-TypedStmt f ≡ t → stmt_step store frame (map-TypedStmt _ _ _ _ does block_doing f) ≡ r → does t ≡ r
+  by_stmt : {t : TypedStmt} (f : TypedStmt-F TypedStmt TypedBlock) {r : Action} → roll-TypedStmt f ≡ t → stmt_step store frame (map-TypedStmt _ _ _ _ does block_doing f) ≡ r → does t ≡ r
   unfolding stmt_of block_of
-  by_stmt f is d = ap does (sym is) ∙ fold-roll-TypedStmt Doing Doing (stmt_step store frame) (block_step store frame) f ∙ d
+  by_stmt f is d = ap does (sym is) ∙ fold-roll-TypedStmt Action Action (stmt_step store frame) (block_step store frame) f ∙ d
 
-  by_block : (ts : List TypedStmt) {r : Doing} → in_turn store frame (map does ts) ≡ r → block_doing (roll-TypedBlock (record { stmts = ts })) ≡ r
+  by_block : (ts : List TypedStmt) {r : Action} → sequence store frame (map does ts) ≡ r → block_doing (roll-TypedBlock (record { stmts = ts })) ≡ r
   unfolding stmt_of block_of
-  by_block ts d = fold-roll-TypedBlock Doing Doing (stmt_step store frame) (block_step store frame) (record { stmts = ts }) ∙ d
+  by_block ts d = fold-roll-TypedBlock Action Action (stmt_step store frame) (block_step store frame) (record { stmts = ts }) ∙ d
 
-  chosen_is : (a : List (TypedExpr × TypedBlock)) (last : Option Doing) → chosen store frame (map (λ p. (p.0, block_doing p.1)) a) last ≡ do_chosen (map (λ p. (λ locals. value_of store frame locals p.0, block_doing p.1)) a) last
+  chosen_is : (a : List (TypedExpr × TypedBlock)) (last : Option Action) → branch store frame (map (λ p. (p.0, block_doing p.1)) a) last ≡ do_chosen (map (λ p. (λ locals. value_of store frame locals p.0, block_doing p.1)) a) last
   chosen_is [] None = refl
   chosen_is [] (Some last) = refl
   chosen_is (p ∷ a) last = λ i locals. value_of store frame locals p.0 >>= (λ x. at_zero x (chosen_is a last i locals) (block_doing p.1 locals))
 
-  turns_is : (n : ℕ) (cond : TypedExpr) (body : Doing) → turns store frame n cond body ≡ do_turns n (λ locals. value_of store frame locals cond) body
+  turns_is : (n : ℕ) (cond : TypedExpr) (body : Action) → turns store frame n cond body ≡ do_turns n (λ locals. value_of store frame locals cond) body
   unfolding turns
   turns_is zero cond body = refl
-  turns_is (suc n) cond body = λ i locals state. after (value_of store frame locals cond state) (λ x. at_zero x (pure (On locals)) (charge store frame 1 >> (body locals >>= (λ flow. on flow (turns_is n cond body i)))))
+  turns_is (suc n) cond body = λ i locals state. after (value_of store frame locals cond state) (λ x. at_zero x (pure (Continues locals)) (charge store frame 1 >> (body locals >>= (λ flow. go_on flow (turns_is n cond body i)))))
 
-  while_is : (cond : TypedExpr) (body : Doing) → stmt_step store frame (TypedStmt-F.While cond body) ≡ do_while (λ locals. value_of store frame locals cond) body
+  while_is : (cond : TypedExpr) (body : Action) → stmt_step store frame (TypedStmt-F.While cond body) ≡ do_while (λ locals. value_of store frame locals cond) body
   while_is cond body = λ i locals. charge store frame 1 >> (λ state. turns_is (suc state.fuel) cond body i locals state)
 
   mutual
@@ -274,7 +274,7 @@ module _ (store : Store) (frame : Frame) where
     stmts_are (stmts t ts) = λ i. stmt_is t i ∷ stmts_are ts i
 
     pub block_does_is : {b : TypedBlock} (x : Block b) → block_doing b ≡ block_does x
-    block_does_is (block ts) = by_block _ (ap (in_turn store frame) (stmts_are ts))
+    block_does_is (block ts) = by_block _ (ap (sequence store frame) (stmts_are ts))
 
     pub arms_are : {a : List (TypedExpr × TypedBlock)} (x : Arms a) → map (λ p. (λ locals. value_of store frame locals p.0, block_doing p.1)) a ≡ arms_do x
     arms_are no_arm = refl

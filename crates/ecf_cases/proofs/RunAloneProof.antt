@@ -1,5 +1,5 @@
 use Rattle.std.specs.Prelude.{[], ◌∷◌, Some, None}
-use Rattle.ecf_lang.specs.Running.{pay, read_cell, write_cell}
+use Rattle.ecf_lang.specs.Part.{pay, read_cell, write_cell}
 use Rattle.ecf_cases.specs.Words.{invoked}
 use Rattle.ecf_cases.specs.Bank.{clears_first, pays_first, owed, cash, got, tries}
 use Rattle.ecf_cases.specs.Calling.{goes_on}

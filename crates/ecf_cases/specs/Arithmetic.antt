@@ -8,7 +8,7 @@ use Rattle.ecf_lang.specs.declared.typed.Typed.{Typed}
 use Rattle.ecf_lang.specs.declared.typed.TypedStmt.{TypedStmt}
 use Rattle.ecf_lang.specs.declared.tx.Tx.{Tx}
 use Rattle.ecf_lang.specs.Genesis.{genesis}
-use Rattle.ecf_lang.specs.Meaning.{run, Ran}
+use Rattle.ecf_lang.specs.Meaning.{run, RunResult}
 use Rattle.ecf_cases.specs.Words.{contract, takes, object, num_field, starting, method, num, local, field, sum, product, plus, minus, times, returns, transaction, calling, cell, reads, invoked}
 
 -- object N {
@@ -79,7 +79,7 @@ abbrev pub chain_20 : Tx
 chain_20 = transaction 100 (calling 0 0 (20 ∷ []) ∷ [])
 
 -- four parts of a sum
-abbrev pub chained : Ran
+abbrev pub chained : RunResult
 chained = record {
   outcome = Answer 22;
   fuel = 10;
@@ -98,7 +98,7 @@ abbrev pub grouped_20 : Tx
 grouped_20 = transaction 100 (calling 0 1 (20 ∷ []) ∷ [])
 
 -- brackets make a part of their own
-abbrev pub grouped_run : Ran
+abbrev pub grouped_run : RunResult
 grouped_run = record {
   outcome = Answer 12;
   fuel = 10;
@@ -117,7 +117,7 @@ abbrev pub products_20 : Tx
 products_20 = transaction 100 (calling 0 2 (20 ∷ []) ∷ [])
 
 -- `*`, `/` and `%` in order
-abbrev pub multiplied : Ran
+abbrev pub multiplied : RunResult
 multiplied = record {
   outcome = Answer 0;
   fuel = 10;
@@ -136,7 +136,7 @@ abbrev pub mixed_20 : Tx
 mixed_20 = transaction 100 (calling 0 3 (20 ∷ []) ∷ [])
 
 -- a product in a sum
-abbrev pub mixed_run : Ran
+abbrev pub mixed_run : RunResult
 mixed_run = record {
   outcome = Answer 34;
   fuel = 8;
@@ -155,7 +155,7 @@ abbrev pub greatest_without : Tx
 greatest_without = transaction 100 (calling 0 4 [] ∷ [])
 
 -- 2^128 - 1 is a number
-abbrev pub greatest_sum : Ran
+abbrev pub greatest_sum : RunResult
 greatest_sum = record {
   outcome = Answer 340282366920938463463374607431768211455;
   fuel = 4;
@@ -174,7 +174,7 @@ abbrev pub least_without : Tx
 least_without = transaction 100 (calling 0 5 [] ∷ [])
 
 -- and so is 0
-abbrev pub least_difference : Ran
+abbrev pub least_difference : RunResult
 least_difference = record {
   outcome = Answer 0;
   fuel = 6;
@@ -193,7 +193,7 @@ abbrev pub great_product_without : Tx
 great_product_without = transaction 100 (calling 0 6 [] ∷ [])
 
 -- a product below 2^128
-abbrev pub great_product_run : Ran
+abbrev pub great_product_run : RunResult
 great_product_run = record {
   outcome = Answer 340282366920938463444927863358058659840;
   fuel = 4;

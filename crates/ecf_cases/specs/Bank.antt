@@ -8,7 +8,7 @@ use Rattle.ecf_lang.specs.declared.typed.Typed.{Typed}
 use Rattle.ecf_lang.specs.declared.typed.TypedStmt.{TypedStmt}
 use Rattle.ecf_lang.specs.declared.tx.Tx.{Tx}
 use Rattle.ecf_lang.specs.Genesis.{genesis}
-use Rattle.ecf_lang.specs.Meaning.{run, Ran}
+use Rattle.ecf_lang.specs.Meaning.{run, RunResult}
 use Rattle.ecf_cases.specs.Words.{contract, takes, object, num_field, map_field, starting, method, num, here, local, field, named, at, plus, minus, compare, let_num, set_field, set_at, when, returns, call_only, transaction, calling, cell, reads, writes, invoked}
 
 -- object Bank {
@@ -146,7 +146,7 @@ abbrev pub withdraw : Tx
 withdraw = transaction 1000 (calling 0 0 (1 ∷ []) ∷ [])
 
 -- where the bank pays first, the thief is paid twice
-abbrev pub paid_twice : Ran
+abbrev pub paid_twice : RunResult
 paid_twice = record {
   outcome = Answer 5;
   fuel = 136;
@@ -169,7 +169,7 @@ abbrev pub PaysFirst : Type 0
 PaysFirst = run pays_first (genesis pays_first) withdraw ≡ paid_twice
 
 -- where the bank clears first, the thief is paid once
-abbrev pub paid_once : Ran
+abbrev pub paid_once : RunResult
 paid_once = record {
   outcome = Answer 5;
   fuel = 136;

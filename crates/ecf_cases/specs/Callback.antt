@@ -7,7 +7,7 @@ use Rattle.ecf_lang.specs.declared.run.Outcome.TheVariants.{Answer, Reverted}
 use Rattle.ecf_lang.specs.declared.typed.Typed.{Typed}
 use Rattle.ecf_lang.specs.declared.typed.TypedStmt.{TypedStmt}
 use Rattle.ecf_lang.specs.declared.tx.Tx.{Tx}
-use Rattle.ecf_lang.specs.Meaning.{run, Ran}
+use Rattle.ecf_lang.specs.Meaning.{run, RunResult}
 use Rattle.ecf_cases.specs.Words.{contract, takes, object, num_field, method, num, field, named, plus, set_field, returns, reverts, call_only, transaction, calling, cell, reads, writes, invoked}
 
 -- object A {
@@ -51,7 +51,7 @@ abbrev pub go : Tx
 go = transaction 200 (calling 0 0 [] ∷ [])
 
 -- the callback's steps come before all of its caller's
-abbrev pub came_first : Ran
+abbrev pub came_first : RunResult
 came_first = record {
   outcome = Answer 11;
   fuel = 50;
@@ -122,7 +122,7 @@ abbrev pub z : Cell
 z = cell 0 2 0
 
 -- three invocations of A, each with a step between those of another
-abbrev pub cycled : Ran
+abbrev pub cycled : RunResult
 cycled = record {
   outcome = Answer 1;
   fuel = 86;
@@ -191,7 +191,7 @@ abbrev pub c : Cell
 c = cell 0 2 0
 
 -- the caller's steps stand on both sides of the callback's
-abbrev pub split : Ran
+abbrev pub split : RunResult
 split = record {
   outcome = Answer 0;
   fuel = 50;
@@ -243,7 +243,7 @@ fails = contract
     ∷ object [] (method 2 0 fails_back ∷ []) ∷ [])
 
 -- the caller reverts in the end: the steps up to there stay on record, and the store as it was
-abbrev pub failed : Ran
+abbrev pub failed : RunResult
 failed = record {
   outcome = Reverted (User 9);
   fuel = 54;
@@ -295,7 +295,7 @@ repeats = contract
     ∷ object [] (method 2 0 repeats_back ∷ []) ∷ [])
 
 -- a write of an equal number is a step like any other
-abbrev pub repeated : Ran
+abbrev pub repeated : RunResult
 repeated = record {
   outcome = Answer 0;
   fuel = 50;

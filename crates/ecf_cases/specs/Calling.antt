@@ -6,7 +6,7 @@ use Rattle.ecf_lang.specs.declared.run.Outcome.TheVariants.{Answer}
 use Rattle.ecf_lang.specs.declared.typed.Typed.{Typed}
 use Rattle.ecf_lang.specs.declared.typed.TypedStmt.{TypedStmt}
 use Rattle.ecf_lang.specs.declared.tx.Tx.{Tx}
-use Rattle.ecf_lang.specs.Meaning.{run, Ran}
+use Rattle.ecf_lang.specs.Meaning.{run, RunResult}
 use Rattle.ecf_cases.specs.Words.{contract, takes, object, num_field, map_field, method, num, here, local, field, named, plus, times, calls, self_calls, let_num, set_field, set_at, returns, call_only, self_only, transaction, calling, cell, reads, writes, invoked}
 
 -- object A {
@@ -53,7 +53,7 @@ abbrev pub own : Tx
 own = transaction 100 (calling 0 1 [] ∷ [])
 
 -- an internal call belongs to its caller: one invocation, and no answer on record
-abbrev pub stayed_inside : Ran
+abbrev pub stayed_inside : RunResult
 stayed_inside = record {
   outcome = Answer 3;
   fuel = 39;
@@ -72,7 +72,7 @@ abbrev pub out : Tx
 out = transaction 100 (calling 0 2 [] ∷ [])
 
 -- an external call of the own object is a new invocation
-abbrev pub called_itself : Ran
+abbrev pub called_itself : RunResult
 called_itself = record {
   outcome = Answer 3;
   fuel = 47;
@@ -122,7 +122,7 @@ abbrev pub go : Tx
 go = transaction 100 (calling 0 0 [] ∷ [])
 
 -- the call is charged to the caller, the body to the callee; the answer is kept with the caller
-abbrev pub called_another : Ran
+abbrev pub called_another : RunResult
 called_another = record {
   outcome = Answer 6;
   fuel = 38;
@@ -192,7 +192,7 @@ abbrev pub go_on : Tx
 go_on = transaction 1000 (calling 0 0 [] ∷ [])
 
 -- all the answers of a caller's calls, in order, that of an internal call's body too
-abbrev pub answered_in_order : Ran
+abbrev pub answered_in_order : RunResult
 answered_in_order = record {
   outcome = Answer 241;
   fuel = 181;

@@ -10,7 +10,7 @@ use Rattle.ecf_lang.specs.declared.typed.TypedStmt.{TypedStmt}
 use Rattle.ecf_lang.specs.declared.tx.Tx.{Tx}
 use Rattle.ecf_lang.specs.Store.{Cells}
 use Rattle.ecf_lang.specs.Genesis.{genesis}
-use Rattle.ecf_lang.specs.Meaning.{run, Ran}
+use Rattle.ecf_lang.specs.Meaning.{run, RunResult}
 use Rattle.ecf_cases.specs.Words.{contract, takes, object, num_field, flag_field, map_field, starting, method, num, local, field, named, at, no, plus, times, compare, all_of, any_of, self_calls, let_num, let_try, set_local, set_field, set_at, when, while, returns, reverts, call_only, self_only, transaction, calling, cell, reads, invoked}
 use Rattle.ecf_lang.specs.declared.run.Step.{Step}
 
@@ -207,7 +207,7 @@ abbrev pub asks : ℕ → ℕ → Tx
 asks name fuel = transaction fuel (calling 0 name [] ∷ [])
 
 -- fuel ends in a method of A, after these charges, steps and reads
-abbrev pub ends : ℕ → ℕ → ℕ → List Step → Cells → Ran
+abbrev pub ends : ℕ → ℕ → ℕ → List Step → Cells → RunResult
 ends name fuel own_fuel made seen = record {
   outcome = OutOfFuel;
   fuel = fuel;
@@ -343,7 +343,7 @@ abbrev pub with_one_more : Tx
 with_one_more = transaction 13 (calling 0 21 [] ∷ [])
 
 -- with the charge of the call paid, the test for the method is made
-abbrev pub tested : Ran
+abbrev pub tested : RunResult
 tested = record {
   outcome = Reverted NoMethod;
   fuel = 13;

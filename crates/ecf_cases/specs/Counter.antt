@@ -6,7 +6,7 @@ use Rattle.ecf_lang.specs.declared.run.Outcome.TheVariants.{Answer, OutOfFuel}
 use Rattle.ecf_lang.specs.declared.typed.Typed.{Typed}
 use Rattle.ecf_lang.specs.declared.typed.TypedStmt.{TypedStmt}
 use Rattle.ecf_lang.specs.declared.tx.Tx.{Tx}
-use Rattle.ecf_lang.specs.Meaning.{run, Ran}
+use Rattle.ecf_lang.specs.Meaning.{run, RunResult}
 use Rattle.ecf_cases.specs.Words.{contract, takes, object, num_field, method, num, field, plus, set_field, returns, transaction, calling, cell, reads, writes, invoked}
 
 -- object Counter {
@@ -36,7 +36,7 @@ abbrev pub bump : Tx
 bump = transaction 100 (calling 0 0 [] ∷ [])
 
 -- one bump
-abbrev pub counted : Ran
+abbrev pub counted : RunResult
 counted = record {
   outcome = Answer 1;
   fuel = 14;
@@ -62,7 +62,7 @@ abbrev pub bump_with_13 : Tx
 bump_with_13 = transaction 13 (calling 0 0 [] ∷ [])
 
 -- one less: the last read is not paid, and so not made
-abbrev pub not_returned : Ran
+abbrev pub not_returned : RunResult
 not_returned = record {
   outcome = OutOfFuel;
   fuel = 13;
@@ -81,7 +81,7 @@ abbrev pub bump_with_9 : Tx
 bump_with_9 = transaction 9 (calling 0 0 [] ∷ [])
 
 -- the write is not paid, and so not made
-abbrev pub not_written : Ran
+abbrev pub not_written : RunResult
 not_written = record {
   outcome = OutOfFuel;
   fuel = 9;
@@ -100,7 +100,7 @@ abbrev pub bump_twice : Tx
 bump_twice = transaction 100 (calling 0 0 [] ∷ calling 0 0 [] ∷ [])
 
 -- two calls of one transaction, each an invocation of its own
-abbrev pub counted_twice : Ran
+abbrev pub counted_twice : RunResult
 counted_twice = record {
   outcome = Answer 2;
   fuel = 28;
@@ -121,7 +121,7 @@ abbrev pub bump_twice_with_20 : Tx
 bump_twice_with_20 = transaction 20 (calling 0 0 [] ∷ calling 0 0 [] ∷ [])
 
 -- the second call wants fuel: the transaction leaves the store as it was
-abbrev pub second_not_paid : Ran
+abbrev pub second_not_paid : RunResult
 second_not_paid = record {
   outcome = OutOfFuel;
   fuel = 20;

@@ -8,7 +8,7 @@ use Rattle.ecf_lang.specs.declared.typed.Typed.{Typed}
 use Rattle.ecf_lang.specs.declared.typed.TypedStmt.{TypedStmt}
 use Rattle.ecf_lang.specs.declared.tx.Tx.{Tx}
 use Rattle.ecf_lang.specs.Genesis.{genesis}
-use Rattle.ecf_lang.specs.Meaning.{run, Ran}
+use Rattle.ecf_lang.specs.Meaning.{run, RunResult}
 use Rattle.ecf_cases.specs.Words.{contract, takes, object, num_field, starting, method, num, here, local, calls, self_calls, let_try, set_field, returns, transaction, calling, cell, writes, invoked}
 
 -- object M {
@@ -35,7 +35,7 @@ abbrev pub go : Tx
 go = transaction 704 (calling 0 0 [] ∷ [])
 
 -- the 65th frame is charged and then refused
-abbrev pub too_deep : Ran
+abbrev pub too_deep : RunResult
 too_deep = record {
   outcome = Reverted Depth;
   fuel = 704;
@@ -54,7 +54,7 @@ abbrev pub go_with_less : Tx
 go_with_less = transaction 703 (calling 0 0 [] ∷ [])
 
 -- one less: its charge comes before the test
-abbrev pub not_paid : Ran
+abbrev pub not_paid : RunResult
 not_paid = record {
   outcome = OutOfFuel;
   fuel = 703;
@@ -87,7 +87,7 @@ abbrev pub go_outside : Tx
 go_outside = transaction 832 (calling 0 0 [] ∷ [])
 
 -- the 65th frame by external calls is charged and then refused
-abbrev pub too_deep_outside : Ran
+abbrev pub too_deep_outside : RunResult
 too_deep_outside = record {
   outcome = Reverted Depth;
   fuel = 832;
@@ -106,7 +106,7 @@ abbrev pub go_outside_with_less : Tx
 go_outside_with_less = transaction 831 (calling 0 0 [] ∷ [])
 
 -- one less: the charge comes before the test
-abbrev pub not_paid_outside : Ran
+abbrev pub not_paid_outside : RunResult
 not_paid_outside = record {
   outcome = OutOfFuel;
   fuel = 831;
@@ -139,7 +139,7 @@ abbrev pub try_outside : Tx
 try_outside = transaction 1000 (calling 0 0 [] ∷ [])
 
 -- the innermost `try` catches that no frame may be opened
-abbrev pub caught_depth : Ran
+abbrev pub caught_depth : RunResult
 caught_depth = record {
   outcome = Answer 1;
   fuel = 960;

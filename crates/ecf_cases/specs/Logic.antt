@@ -9,7 +9,7 @@ use Rattle.ecf_lang.specs.declared.typed.TypedStmt.{TypedStmt}
 use Rattle.ecf_lang.specs.declared.tx.Tx.{Tx}
 use Rattle.ecf_lang.specs.Store.{Store}
 use Rattle.ecf_lang.specs.Genesis.{genesis}
-use Rattle.ecf_lang.specs.Meaning.{run, Ran}
+use Rattle.ecf_lang.specs.Meaning.{run, RunResult}
 use Rattle.ecf_cases.specs.Words.{contract, takes, object, num_field, flag_field, starting, method, num, local, field, no, compare, all_of, any_of, set_field, choose, arm, otherwise, when, returns, transaction, calling, cell, reads, writes, invoked}
 
 -- object L {
@@ -82,7 +82,7 @@ abbrev pub both_1 : Tx
 both_1 = transaction 100 (calling 0 0 (1 ∷ []) ∷ [])
 
 -- a true left side of `&&`: the right side is evaluated
-abbrev pub both_read : Ran
+abbrev pub both_read : RunResult
 both_read = record {
   outcome = Answer 1;
   fuel = 10;
@@ -101,7 +101,7 @@ abbrev pub both_2 : Tx
 both_2 = transaction 100 (calling 0 0 (2 ∷ []) ∷ [])
 
 -- a false left side of `&&`: the right side is not evaluated
-abbrev pub and_skipped : Ran
+abbrev pub and_skipped : RunResult
 and_skipped = record {
   outcome = Answer 0;
   fuel = 5;
@@ -120,7 +120,7 @@ abbrev pub either_1 : Tx
 either_1 = transaction 100 (calling 0 1 (1 ∷ []) ∷ [])
 
 -- a false left side of `||`: the right side is evaluated
-abbrev pub or_read : Ran
+abbrev pub or_read : RunResult
 or_read = record {
   outcome = Answer 0;
   fuel = 10;
@@ -139,7 +139,7 @@ abbrev pub either_2 : Tx
 either_2 = transaction 100 (calling 0 1 (2 ∷ []) ∷ [])
 
 -- a true left side of `||`: the right side is not evaluated
-abbrev pub or_skipped : Ran
+abbrev pub or_skipped : RunResult
 or_skipped = record {
   outcome = Answer 1;
   fuel = 5;
@@ -158,7 +158,7 @@ abbrev pub three_2 : Tx
 three_2 = transaction 100 (calling 0 2 (2 ∷ []) ∷ [])
 
 -- three parts, the last one a `!`
-abbrev pub all_three : Ran
+abbrev pub all_three : RunResult
 all_three = record {
   outcome = Answer 0;
   fuel = 13;
@@ -177,7 +177,7 @@ abbrev pub three_6 : Tx
 three_6 = transaction 100 (calling 0 2 (6 ∷ []) ∷ [])
 
 -- the first of three parts is false: one more charge, and no more parts
-abbrev pub none_of_three : Ran
+abbrev pub none_of_three : RunResult
 none_of_three = record {
   outcome = Answer 0;
   fuel = 5;
@@ -196,7 +196,7 @@ abbrev pub choose_0 : Tx
 choose_0 = transaction 100 (calling 0 3 (0 ∷ []) ∷ [])
 
 -- the first arm, which returns
-abbrev pub first_arm : Ran
+abbrev pub first_arm : RunResult
 first_arm = record {
   outcome = Answer 10;
   fuel = 6;
@@ -215,7 +215,7 @@ abbrev pub choose_1 : Tx
 choose_1 = transaction 100 (calling 0 3 (1 ∷ []) ∷ [])
 
 -- the second arm, after both conditions
-abbrev pub second_arm : Ran
+abbrev pub second_arm : RunResult
 second_arm = record {
   outcome = Answer 20;
   fuel = 17;
@@ -234,7 +234,7 @@ abbrev pub choose_2 : Tx
 choose_2 = transaction 100 (calling 0 3 (2 ∷ []) ∷ [])
 
 -- the `else`
-abbrev pub last_block : Ran
+abbrev pub last_block : RunResult
 last_block = record {
   outcome = Answer 30;
   fuel = 17;
@@ -253,7 +253,7 @@ abbrev pub silent_4 : Tx
 silent_4 = transaction 100 (calling 0 4 (4 ∷ []) ∷ [])
 
 -- a method that runs to its end without a `return` answers 0
-abbrev pub ended_silently : Ran
+abbrev pub ended_silently : RunResult
 ended_silently = record {
   outcome = Answer 0;
   fuel = 10;
@@ -272,7 +272,7 @@ abbrev pub silent_0 : Tx
 silent_0 = transaction 100 (calling 0 4 (0 ∷ []) ∷ [])
 
 -- an `if` without an `else`, and a `return` from inside
-abbrev pub no_else : Ran
+abbrev pub no_else : RunResult
 no_else = record {
   outcome = Answer 5;
   fuel = 6;
@@ -329,7 +329,7 @@ abbrev pub ask_both : Tx
 ask_both = transaction 100 (calling 0 0 [] ∷ [])
 
 -- any number but 0 counts as true, and `&&` has the value of the last part evaluated
-abbrev pub odd_both : Ran
+abbrev pub odd_both : RunResult
 odd_both = record {
   outcome = Answer 9;
   fuel = 8;
@@ -348,7 +348,7 @@ abbrev pub ask_either : Tx
 ask_either = transaction 100 (calling 0 1 [] ∷ [])
 
 -- `||` has the value of the last part evaluated, too
-abbrev pub odd_either : Ran
+abbrev pub odd_either : RunResult
 odd_either = record {
   outcome = Answer 7;
   fuel = 5;
@@ -367,7 +367,7 @@ abbrev pub ask_not_a : Tx
 ask_not_a = transaction 100 (calling 0 2 [] ∷ [])
 
 -- `!` gives 0 or 1
-abbrev pub odd_not : Ran
+abbrev pub odd_not : RunResult
 odd_not = record {
   outcome = Answer 0;
   fuel = 5;

@@ -7,7 +7,7 @@ use Rattle.ecf_lang.specs.declared.run.Outcome.TheVariants.{Answer, OutOfFuel}
 use Rattle.ecf_lang.specs.declared.typed.Typed.{Typed}
 use Rattle.ecf_lang.specs.declared.typed.TypedStmt.{TypedStmt}
 use Rattle.ecf_lang.specs.declared.tx.Tx.{Tx}
-use Rattle.ecf_lang.specs.Meaning.{run, Ran}
+use Rattle.ecf_lang.specs.Meaning.{run, RunResult}
 use Rattle.ecf_cases.specs.Words.{contract, takes, object, map_field, method, num, flag, local, at, plus, times, compare, let_num, set_local, set_at, when, while, returns, transaction, calling, cell, reads, writes, invoked}
 
 -- object S {
@@ -56,7 +56,7 @@ abbrev pub sum_of_three : Tx
 sum_of_three = transaction 1000 (calling 0 0 (3 ∷ []) ∷ [])
 
 -- three turns
-abbrev pub summed : Ran
+abbrev pub summed : RunResult
 summed = record {
   outcome = Answer 14;
   fuel = 82;
@@ -76,7 +76,7 @@ abbrev pub sum_of_none : Tx
 sum_of_none = transaction 1000 (calling 0 0 (0 ∷ []) ∷ [])
 
 -- no turn: the condition alone is paid
-abbrev pub no_turn : Ran
+abbrev pub no_turn : RunResult
 no_turn = record {
   outcome = Answer 0;
   fuel = 10;
@@ -127,7 +127,7 @@ abbrev pub first_with_2 : Tx
 first_with_2 = transaction 1000 (calling 0 0 (2 ∷ []) ∷ [])
 
 -- a `return` in a loop ends the method
-abbrev pub returned : Ran
+abbrev pub returned : RunResult
 returned = record {
   outcome = Answer 20;
   fuel = 27;
@@ -160,7 +160,7 @@ abbrev pub spin : Tx
 spin = transaction 12 (calling 0 0 [] ∷ [])
 
 -- a loop without end takes all the fuel
-abbrev pub spun : Ran
+abbrev pub spun : RunResult
 spun = record {
   outcome = OutOfFuel;
   fuel = 12;

@@ -3,11 +3,11 @@ use Rattle.std.specs.Prelude.{◌≡◌, ℕ, List, [], ◌∷◌, map, Result, 
 use Rattle.ecf_lang.specs.declared.run.Cause.{Cause}
 use Rattle.ecf_lang.specs.declared.run.Cause.TheVariants.{Overflow, DivZero}
 use Rattle.ecf_lang.specs.declared.tree.Op.TheVariants.{Add, Sub, Mul, Div, Rem, Eq, Ne, Lt, Le, Gt, Ge}
-use Rattle.ecf_lang.specs.Meaning.{applied}
+use Rattle.ecf_lang.specs.Meaning.{op_value}
 
 -- `+`, `-`, `*`, `/`, `%`, `==`, `!=`, `<`, `<=`, `>` and `>=` of two numbers
 abbrev pub all_at : ℕ → ℕ → List (Result ℕ Cause)
-all_at x y = map (λ op. applied op x y) (Add ∷ Sub ∷ Mul ∷ Div ∷ Rem ∷ Eq ∷ Ne ∷ Lt ∷ Le ∷ Gt ∷ Ge ∷ [])
+all_at x y = map (λ op. op_value op x y) (Add ∷ Sub ∷ Mul ∷ Div ∷ Rem ∷ Eq ∷ Ne ∷ Lt ∷ Le ∷ Gt ∷ Ge ∷ [])
 
 -- of a greater and a smaller number
 abbrev pub AtGreater : Type 0

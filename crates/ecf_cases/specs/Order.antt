@@ -8,7 +8,7 @@ use Rattle.ecf_lang.specs.declared.typed.Typed.{Typed}
 use Rattle.ecf_lang.specs.declared.typed.TypedStmt.{TypedStmt}
 use Rattle.ecf_lang.specs.declared.tx.Tx.{Tx}
 use Rattle.ecf_lang.specs.Genesis.{genesis}
-use Rattle.ecf_lang.specs.Meaning.{run, Ran}
+use Rattle.ecf_lang.specs.Meaning.{run, RunResult}
 use Rattle.ecf_cases.specs.Words.{contract, takes, object, num_field, map_field, starting, method, num, local, field, named, at, plus, minus, times, compare, calls, self_calls, set_at, returns, transaction, calling, cell, reads, writes, invoked}
 
 -- object A {
@@ -78,7 +78,7 @@ abbrev pub put : Tx
 put = transaction 100 (calling 0 0 [] ∷ [])
 
 -- an index before the value, and both before the write
-abbrev pub put_in_order : Ran
+abbrev pub put_in_order : RunResult
 put_in_order = record {
   outcome = Answer 0;
   fuel = 13;
@@ -97,7 +97,7 @@ abbrev pub get : Tx
 get = transaction 100 (calling 0 1 [] ∷ [])
 
 -- the left part of a difference before the right one
-abbrev pub got_in_order : Ran
+abbrev pub got_in_order : RunResult
 got_in_order = record {
   outcome = Answer 5;
   fuel = 11;
@@ -116,7 +116,7 @@ abbrev pub compared : Tx
 compared = transaction 100 (calling 0 2 [] ∷ [])
 
 -- the left side of a comparison before the right one
-abbrev pub compared_in_order : Ran
+abbrev pub compared_in_order : RunResult
 compared_in_order = record {
   outcome = Answer 1;
   fuel = 8;
@@ -135,7 +135,7 @@ abbrev pub ask : Tx
 ask = transaction 100 (calling 0 3 [] ∷ [])
 
 -- a target before the arguments, in their order
-abbrev pub asked_in_order : Ran
+abbrev pub asked_in_order : RunResult
 asked_in_order = record {
   outcome = Answer 12;
   fuel = 30;

@@ -9,7 +9,7 @@ use Rattle.ecf_lang.specs.declared.typed.TypedStmt.{TypedStmt}
 use Rattle.ecf_lang.specs.declared.tx.Tx.{Tx}
 use Rattle.ecf_lang.specs.Store.{Store}
 use Rattle.ecf_lang.specs.Genesis.{genesis}
-use Rattle.ecf_lang.specs.Meaning.{run, Ran}
+use Rattle.ecf_lang.specs.Meaning.{run, RunResult}
 use Rattle.ecf_cases.specs.Words.{contract, takes, object, num_field, addr_field, starting, method, num, field, named, plus, minus, times, over, modulo, set_field, returns, reverts, call_only, transaction, calling, cell, reads, writes, invoked}
 
 -- object M {
@@ -94,7 +94,7 @@ abbrev pub ask_over : Tx
 ask_over = transaction 100 (calling 0 0 [] ∷ [])
 
 -- a sum of 2^128
-abbrev pub sum_overflowed : Ran
+abbrev pub sum_overflowed : RunResult
 sum_overflowed = record {
   outcome = Reverted Overflow;
   fuel = 10;
@@ -113,7 +113,7 @@ abbrev pub ask_under : Tx
 ask_under = transaction 100 (calling 0 1 [] ∷ [])
 
 -- a difference below 0
-abbrev pub difference_overflowed : Ran
+abbrev pub difference_overflowed : RunResult
 difference_overflowed = record {
   outcome = Reverted Overflow;
   fuel = 10;
@@ -132,7 +132,7 @@ abbrev pub ask_much : Tx
 ask_much = transaction 100 (calling 0 2 [] ∷ [])
 
 -- a product of 2^128
-abbrev pub product_overflowed : Ran
+abbrev pub product_overflowed : RunResult
 product_overflowed = record {
   outcome = Reverted Overflow;
   fuel = 10;
@@ -151,7 +151,7 @@ abbrev pub ask_div : Tx
 ask_div = transaction 100 (calling 0 3 [] ∷ [])
 
 -- a quotient by 0
-abbrev pub divided : Ran
+abbrev pub divided : RunResult
 divided = record {
   outcome = Reverted DivZero;
   fuel = 10;
@@ -170,7 +170,7 @@ abbrev pub ask_rem : Tx
 ask_rem = transaction 100 (calling 0 4 [] ∷ [])
 
 -- a remainder by 0
-abbrev pub left_over : Ran
+abbrev pub left_over : RunResult
 left_over = record {
   outcome = Reverted DivZero;
   fuel = 10;
@@ -189,7 +189,7 @@ abbrev pub ask_gone : Tx
 ask_gone = transaction 100 (calling 0 5 [] ∷ [])
 
 -- a call of a method that the object has not: its charge is taken, and no invocation opened
-abbrev pub missed : Ran
+abbrev pub missed : RunResult
 missed = record {
   outcome = Reverted NoMethod;
   fuel = 19;
@@ -208,7 +208,7 @@ abbrev pub ask_own : Tx
 ask_own = transaction 100 (calling 0 6 [] ∷ [])
 
 -- a `revert`, with the number that it evaluates to
-abbrev pub reverted : Ran
+abbrev pub reverted : RunResult
 reverted = record {
   outcome = Reverted (User 3);
   fuel = 12;
@@ -227,7 +227,7 @@ abbrev pub fine_then_div : Tx
 fine_then_div = transaction 100 (calling 0 7 [] ∷ calling 0 3 [] ∷ [])
 
 -- a revert of the second call: the first one has written nothing either
-abbrev pub second_reverted : Ran
+abbrev pub second_reverted : RunResult
 second_reverted = record {
   outcome = Reverted DivZero;
   fuel = 18;
@@ -248,7 +248,7 @@ abbrev pub div_then_fine : Tx
 div_then_fine = transaction 100 (calling 0 3 [] ∷ calling 0 7 [] ∷ [])
 
 -- a revert of the first call: the second one does not begin
-abbrev pub first_reverted : Ran
+abbrev pub first_reverted : RunResult
 first_reverted = record {
   outcome = Reverted DivZero;
   fuel = 10;
@@ -290,7 +290,7 @@ abbrev pub go_astray : Tx
 go_astray = transaction 100 (calling 0 0 [] ∷ [])
 
 -- an object that is not there has no method
-abbrev pub strayed : Ran
+abbrev pub strayed : RunResult
 strayed = record {
   outcome = Reverted NoMethod;
   fuel = 15;

@@ -8,7 +8,7 @@ use Rattle.ecf_lang.specs.declared.typed.Typed.{Typed}
 use Rattle.ecf_lang.specs.declared.typed.TypedStmt.{TypedStmt}
 use Rattle.ecf_lang.specs.declared.tx.Tx.{Tx}
 use Rattle.ecf_lang.specs.Genesis.{genesis}
-use Rattle.ecf_lang.specs.Meaning.{run, Ran}
+use Rattle.ecf_lang.specs.Meaning.{run, RunResult}
 use Rattle.ecf_cases.specs.Words.{contract, takes, object, num_field, starting, method, num, local, field, named, plus, over, let_try, set_field, when, returns, reverts, call_only, transaction, calling, cell, reads, writes, invoked, undid}
 
 -- object A {
@@ -58,7 +58,7 @@ abbrev pub go : Tx
 go = transaction 100 (calling 0 0 [] ∷ [])
 
 -- the callee is undone: its step and its write are gone, its fuel is not
-abbrev pub caught : Ran
+abbrev pub caught : RunResult
 caught = record {
   outcome = Answer 1;
   fuel = 33;
@@ -78,7 +78,7 @@ abbrev pub go_with_20 : Tx
 go_with_20 = transaction 20 (calling 0 0 [] ∷ [])
 
 -- want of fuel in the callee is not caught
-abbrev pub ran_out : Ran
+abbrev pub ran_out : RunResult
 ran_out = record {
   outcome = OutOfFuel;
   fuel = 20;
@@ -132,7 +132,7 @@ catches_callback = contract
     ∷ object [] (method 2 0 catches_callback_back ∷ []) ∷ [])
 
 -- what the callee called is undone with it
-abbrev pub caught_with_callback : Ran
+abbrev pub caught_with_callback : RunResult
 caught_with_callback = record {
   outcome = Answer 2;
   fuel = 56;
@@ -165,7 +165,7 @@ tries_missing = contract
     ∷ object [] [] ∷ [])
 
 -- a missing method is caught, and opens no invocation
-abbrev pub caught_missing : Ran
+abbrev pub caught_missing : RunResult
 caught_missing = record {
   outcome = Answer 0;
   fuel = 15;
@@ -212,7 +212,7 @@ succeeds = contract
     ∷ object (num_field ∷ []) (method 1 1 succeeds_good ∷ []) ∷ [])
 
 -- where the callee answers, the flag is 1, and its steps and writes stay
-abbrev pub answered : Ran
+abbrev pub answered : RunResult
 answered = record {
   outcome = Answer 5;
   fuel = 34;
@@ -277,7 +277,7 @@ abbrev pub z : Cell
 z = cell 1 1 0
 
 -- what was read under the `try` stays among the reads; what was written is as before, and the next invocation takes the next number
-abbrev pub read_again : Ran
+abbrev pub read_again : RunResult
 read_again = record {
   outcome = Answer 3;
   fuel = 58;
@@ -357,7 +357,7 @@ abbrev pub go_with_300 : Tx
 go_with_300 = transaction 300 (calling 0 0 [] ∷ [])
 
 -- the innermost `try` catches; the outer one hears an answer
-abbrev pub inner_caught : Ran
+abbrev pub inner_caught : RunResult
 inner_caught = record {
   outcome = Answer 1;
   fuel = 102;
@@ -407,7 +407,7 @@ tries_in_arguments = contract
     ∷ object [] (method 1 1 tries_in_arguments_take ∷ []) ∷ [])
 
 -- a revert in an argument of the `try` is not caught by it
-abbrev pub argument_failed : Ran
+abbrev pub argument_failed : RunResult
 argument_failed = record {
   outcome = Reverted DivZero;
   fuel = 7;

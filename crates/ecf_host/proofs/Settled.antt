@@ -7,25 +7,25 @@ use Rattle.ecf_lang.specs.declared.tx.Tx.{Tx}
 use Rattle.ecf_lang.specs.declared.typed.Typed.{Typed}
 use Rattle.ecf_lang.specs.Genesis.{genesis}
 use Rattle.ecf_lang.specs.Store.{Store, with_writes}
-use Rattle.ecf_lang.specs.Running.{Reverts, RunsOut, Reached, Gives, Halts}
-use Rattle.ecf_lang.specs.Meaning.{run, recorded, ran, Ran, calls_of, fresh}
+use Rattle.ecf_lang.specs.Part.{Reverts, RunsOut, Control, Done, Exit}
+use Rattle.ecf_lang.specs.Meaning.{run, kept_run, result_of, RunResult, calls_of, initial_state}
 use Rattle.ecf_texts.specs.Journal.{journal_text}
 use Rattle.ecf_verdicts.specs.Journals.{IsLegal}
-use Rattle.ecf_verdicts.specs.Receipts.{answered, receipt_of, receipt_on, kept, next, serial_from}
+use Rattle.ecf_verdicts.specs.Receipts.{receipt_of_answer, receipt_of, receipt_on, kept, next, serial_from}
 use Rattle.ecf_verdicts.proofs.Single.{single_approved}
 use Rattle.ecf_verdicts.proofs.SerialProved.{vetoed_where_not_free}
 use Rattle.ecf_host.specs.Journals.{IsJournal}
 
 -- the store that a run of one invocation leaves is the one before it with its writes
-settled : (store : Store) (limit : ℕ) (reached : Reached ℕ) → (let a : Ran = ran store limit reached in All (λ (s : Step). s.inv ≡ 0) a.steps → kept (receipt_of a.outcome a.fuel a.steps) store a.store ≡ with_writes store a.writes)
-settled store limit (Gives value state) one =
-    ap (λ v. kept (answered value (limit - state.fuel) v) store (with_writes store state.written)) (single_approved state.steps 0 one)
-settled store limit (Halts (Reverts cause) state) one = refl
-settled store limit (Halts RunsOut state) one = refl
+settled : (store : Store) (limit : ℕ) (reached : Control ℕ) → (let a : RunResult = result_of store limit reached in All (λ (s : Step). s.inv ≡ 0) a.steps → kept (receipt_of a.outcome a.fuel a.steps) store a.store ≡ with_writes store a.writes)
+settled store limit (Done value state) one =
+    ap (λ v. kept (receipt_of_answer value (limit - state.fuel) v) store (with_writes store state.written)) (single_approved state.steps 0 one)
+settled store limit (Exit (Reverts cause) state) one = refl
+settled store limit (Exit RunsOut state) one = refl
 
 next_is : (typed : Typed) (store : Store) (tx : Tx) → All (λ (s : Step). s.inv ≡ 0) (run typed store tx).steps → next typed store tx ≡ with_writes store (run typed store tx).writes
 unfolding next receipt_on run
-next_is typed store tx one = settled store tx.fuel (calls_of typed store tx.calls (fresh tx.fuel)) one
+next_is typed store tx one = settled store tx.fuel (calls_of typed store tx.calls (initial_state tx.fuel)) one
 
 -- one transaction alone is in order
 alone_legal : (tx : Tx) → IsLegal (tx ∷ []) (0 ∷ [])
@@ -35,7 +35,7 @@ alone_legal tx = record {
 }
 
 -- the text of a run's entry and fields is the journal of its transaction
-pub journal_is : (typed : Typed) (tx : Tx) (r : Run) (text : List ℕ) → genesis typed ≡ [] → r ≡ recorded (run typed [] tx) → All (λ (s : Step). s.inv ≡ 0) r.steps →
+pub journal_is : (typed : Typed) (tx : Tx) (r : Run) (text : List ℕ) → genesis typed ≡ [] → r ≡ kept_run (run typed [] tx) → All (λ (s : Step). s.inv ≡ 0) r.steps →
     text ≡ journal_text typed (tx ∷ []) (record { row = 0; receipt = receipt_of r.outcome r.fuel r.steps } ∷ []) None (with_writes [] r.writes) → IsJournal typed (tx ∷ []) None text
 unfolding serial_from receipt_on
 journal_is typed tx r text blank is one text_is = record {

@@ -17,8 +17,8 @@ use Rattle.ecf_lang.specs.declared.tx.Tx.{Tx}
 use Rattle.ecf_lang.specs.declared.run.Run.{Run}
 use Rattle.ecf_lang.specs.Store.{Store}
 use Rattle.ecf_lang.specs.Fits.{method_of, method_at}
-use Rattle.ecf_lang.specs.Running.{State, Halts, Gives, Reverts, Reached, Running, after, ◌>>=◌, ◌>>◌, pure, begin, note, answering}
-use Rattle.ecf_lang.specs.Meaning.{Frame, Opens, Flow, On, Back, answered, body_of, locals_of, frame_of, ways, tested, calls_of, fresh, ran, recorded, run}
+use Rattle.ecf_lang.specs.Part.{State, Exit, Done, Reverts, Control, Part, after, ◌>>=◌, ◌>>◌, pure, begin, note, with_answer}
+use Rattle.ecf_lang.specs.Meaning.{Frame, Opens, Flow, Continues, Returns, flow_answer, body_of, locals_of, frame_of, ways, checked_call, calls_of, initial_state, result_of, kept_run, run}
 use Rattle.ecf_lang.proofs.Forms.{block_is, anew_is}
 use Rattle.ecf_interp.specs.declared.machine.Task.{Task}
 use Rattle.ecf_interp.specs.Built.{IsBuilt, IsBuiltObject, IsBuiltBlock}
@@ -48,27 +48,27 @@ method_built typed object name method built is = by_cases (slice_get_cases typed
 
 module _ (typed : Typed) (store : Store) (to name : ℕ) (args : List ℕ) where
   -- a call, by its tests
-  anew_tested : (s : State) → (ways typed store 64).anew to name args s ≡ tested typed store (ways typed store 63) to name args s
+  anew_tested : (s : State) → (ways typed store 64).anew to name args s ≡ checked_call typed store (ways typed store 63) to name args s
   anew_tested s = anew_is typed store 63 to name args s
 
-  pub call_full : (s : State) → 1024 ≤ length s.invocations → (ways typed store 64).anew to name args s ≡ Halts (Reverts Calls) s
+  pub call_full : (s : State) → 1024 ≤ length s.invocations → (ways typed store 64).anew to name args s ≡ Exit (Reverts Calls) s
   call_full s full = let e : nat_lt (length s.invocations) 1024 ≡ false = grind (arith, nat_tests) in anew_tested s ∙ rw e refl
 
-  pub call_missing : (s : State) → length s.invocations < 1024 → method_at typed to name ≡ None → (ways typed store 64).anew to name args s ≡ Halts (Reverts NoMethod) s
+  pub call_missing : (s : State) → length s.invocations < 1024 → method_at typed to name ≡ None → (ways typed store 64).anew to name args s ≡ Exit (Reverts NoMethod) s
   call_missing s room none = let e : nat_lt (length s.invocations) 1024 ≡ true = grind (arith, nat_tests) in anew_tested s ∙ rw (e, none) refl
 
   -- a body without a return answers 0
-  answers : (frame : Frame) (r : Reached Flow) → after r (λ flow. pure (answered flow)) ≡ after r (settled (plug store frame []))
-  answers frame (Gives (On locals) s) = refl
-  answers frame (Gives (Back answer) s) = refl
-  answers frame (Halts halt s) = refl
+  answers : (frame : Frame) (r : Control Flow) → after r (λ flow. pure (flow_answer flow)) ≡ after r (settled (plug store frame []))
+  answers frame (Done (Continues locals) s) = refl
+  answers frame (Done (Returns answer) s) = refl
+  answers frame (Exit halt s) = refl
 
   pub call_opened : (method : TypedMethod) (stmts : List TypedStmt) (tasks : List Task) (inv : ℕ) (s s1 s2 s3 : State) (outcome : Outcome) →
       length s.invocations < 1024 →
       method_at typed to name ≡ Some method →
       stmts ≡ (out-TypedBlock method.body).stmts →
       tasks ≡ [] →
-      begin to name args s ≡ Gives inv s1 →
+      begin to name args s ≡ Done inv s1 →
       ((opens : Opens) (locals : List ℕ) → after (stmts_of store (record { here = to; inv = inv; opens = opens }) stmts locals s1) (settled (plug store (record { here = to; inv = inv; opens = opens }) tasks)) ≡ reached outcome s2) →
       after (reached outcome s2) (closing inv) ≡ reached outcome s3 →
       (ways typed store 64).anew to name args s ≡ reached outcome s3
@@ -77,17 +77,17 @@ module _ (typed : Typed) (store : Store) (to name : ℕ) (args : List ℕ) where
       let frame : Frame = frame_of typed store (ways typed store 63) to inv in
       let locals = locals_of method args in
       let body : body_of store frame (Some method) args s1 ≡ reached outcome s2 =
-      ap (λ r. after r (λ flow. pure (answered flow))) (block_is store frame method.body locals s1) ∙
+      ap (λ r. after r (λ flow. pure (flow_answer flow))) (block_is store frame method.body locals s1) ∙
       answers frame (stmts_of store frame (out-TypedBlock method.body).stmts locals s1) ∙
       ap (λ ts. after (stmts_of store frame ts locals s1) (settled (plug store frame []))) (sym stmts_are) ∙
       ap (λ ts. after (stmts_of store frame stmts locals s1) (settled (plug store frame ts))) (sym none) ∙
       finished frame.opens locals in
       anew_tested s ∙ rw (e, some) (
-      ap (λ r. after r (λ n. body_of store (frame_of typed store (ways typed store 63) to n) (Some method) args >>= (λ v. note (answering v) n >> pure v))) begun ∙
-      ap (λ r. after r (λ v. note (answering v) inv >> pure v)) body ∙ closed)
+      ap (λ r. after r (λ n. body_of store (frame_of typed store (ways typed store 63) to n) (Some method) args >>= (λ v. note (with_answer v) n >> pure v))) begun ∙
+      ap (λ r. after r (λ v. note (with_answer v) inv >> pure v)) body ∙ closed)
 
 -- the calls that are left, where the last one before them gave this answer
-abbrev pub calls_left : Typed → Store → ℕ → List TxCall → Running ℕ
+abbrev pub calls_left : Typed → Store → ℕ → List TxCall → Part ℕ
 calls_left typed store last [] = pure last
 calls_left typed store last (call ∷ calls) =
     (ways typed store 64).anew call.object call.method call.args >>= (λ value. calls_left typed store value calls)
@@ -97,27 +97,27 @@ pub calls_begun : (typed : Typed) (store : Store) (calls : List TxCall) (s : Sta
 calls_begun typed store [] s = refl
 calls_begun typed store (call ∷ []) s = alone ((ways typed store 64).anew call.object call.method call.args s)
   where
-    alone : (r : Reached ℕ) → r ≡ after r pure
-    alone (Gives value s) = refl
-    alone (Halts halt s) = refl
+    alone : (r : Control ℕ) → r ≡ after r pure
+    alone (Done value s) = refl
+    alone (Exit halt s) = refl
 calls_begun typed store (call ∷ next ∷ calls) s = further (calls_begun typed store (next ∷ calls)) ((ways typed store 64).anew call.object call.method call.args s)
   where
-    further : ((s : State) → calls_of typed store (next ∷ calls) s ≡ calls_left typed store 0 (next ∷ calls) s) → (r : Reached ℕ) → after r (λ _. calls_of typed store (next ∷ calls)) ≡ after r (λ value. calls_left typed store value (next ∷ calls))
-    further same (Gives value s) = same s
-    further same (Halts halt s) = refl
+    further : ((s : State) → calls_of typed store (next ∷ calls) s ≡ calls_left typed store 0 (next ∷ calls) s) → (r : Control ℕ) → after r (λ _. calls_of typed store (next ∷ calls)) ≡ after r (λ value. calls_left typed store value (next ∷ calls))
+    further same (Done value s) = same s
+    further same (Exit halt s) = refl
 
 -- what is left of a list at an element
 drop_begins : (calls : List TxCall) (i : ℕ) (call : TxCall) → i < length calls → call ≡ get_or calls i call → drop i calls ≡ call ∷ drop (i + 1) calls
 drop_begins calls i call within at = rw add-one (drop-cons calls i call within ∙ ap (λ c. c ∷ drop (suc i) calls) (sym at))
 
 -- one call of those left, where it answers and where it doesn't
-pub call_answered : (typed : Typed) (store : Store) (last value i : ℕ) (calls : List TxCall) (call : TxCall) (s s1 : State) → i < length calls → call ≡ get_or calls i call → (ways typed store 64).anew call.object call.method call.args s ≡ Gives value s1 → calls_left typed store last (drop i calls) s ≡ calls_left typed store value (drop (i + 1) calls) s1
+pub call_answered : (typed : Typed) (store : Store) (last value i : ℕ) (calls : List TxCall) (call : TxCall) (s s1 : State) → i < length calls → call ≡ get_or calls i call → (ways typed store 64).anew call.object call.method call.args s ≡ Done value s1 → calls_left typed store last (drop i calls) s ≡ calls_left typed store value (drop (i + 1) calls) s1
 call_answered typed store last value i calls call s s1 within at gave =
     ap (λ cs. calls_left typed store last cs s) (drop_begins calls i call within at) ∙
     ap (λ r. after r (λ value. calls_left typed store value (drop (i + 1) calls))) gave
 
 -- an outcome without an answer ends the run
-stops : (outcome : Outcome) (s : State) (next : ℕ → Running ℕ) → ((value : ℕ) → outcome ≡ Answer value → ⊥) → after (reached outcome s) next ≡ reached outcome s
+stops : (outcome : Outcome) (s : State) (next : ℕ → Part ℕ) → ((value : ℕ) → outcome ≡ Answer value → ⊥) → after (reached outcome s) next ≡ reached outcome s
 stops (Answer value) s next none = absurd (none value refl)
 stops (Reverted cause) s next none = refl
 stops OutOfFuel s next none = refl
@@ -129,11 +129,11 @@ call_stopped typed store last i calls call s s1 outcome within at gave none =
     stops outcome s1 (λ value. calls_left typed store value (drop (i + 1) calls)) none
 
 -- no call is left
-pub calls_done : (typed : Typed) (store : Store) (last i : ℕ) (calls : List TxCall) (s : State) → length calls ≤ i → calls_left typed store last (drop i calls) s ≡ Gives last s
+pub calls_done : (typed : Typed) (store : Store) (last i : ℕ) (calls : List TxCall) (s : State) → length calls ≤ i → calls_left typed store last (drop i calls) s ≡ Done last s
 calls_done typed store last i calls s past = ap (λ cs. calls_left typed store last cs s) (drop_all i calls past)
 
 -- a run as it is recorded, from where its calls led
-pub run_recorded : {E : Type 0} (typed : Typed) (store : Store) (tx : Tx) (result : Result Run E) (outcome : Outcome) (s : State) → calls_of typed store tx.calls (fresh tx.fuel) ≡ reached outcome s → IfOk result (λ r. (store : Store) → r ≡ recorded (ran store tx.fuel (reached outcome s))) → IfOk result (λ r. r ≡ recorded (run typed store tx))
+pub run_recorded : {E : Type 0} (typed : Typed) (store : Store) (tx : Tx) (result : Result Run E) (outcome : Outcome) (s : State) → calls_of typed store tx.calls (initial_state tx.fuel) ≡ reached outcome s → IfOk result (λ r. (store : Store) → r ≡ kept_run (result_of store tx.fuel (reached outcome s))) → IfOk result (λ r. r ≡ kept_run (run typed store tx))
 unfolding run
-run_recorded typed store tx (Ok r) outcome s led is = is store ∙ ap (λ reach. recorded (ran store tx.fuel reach)) (sym led)
+run_recorded typed store tx (Ok r) outcome s led is = is store ∙ ap (λ reach. kept_run (result_of store tx.fuel reach)) (sym led)
 run_recorded typed store tx (Err e) outcome s led is = tt

@@ -6,7 +6,7 @@ use Rattle.std.specs.BTreeMap.{is_at}
 use Rattle.std.specs.BTreeSet.{BTreeSet, Updates}
 use Rattle.std.proofs.lemmas.Cmp.{nat_cmp_total, on_total, then_total, eq_by_cmp_equiv}
 use Rattle.ecf_lang.specs.declared.cell.Cell.{Cell}
-use Rattle.ecf_lang.specs.Store.{Cells, cell_cmp, found}
+use Rattle.ecf_lang.specs.Store.{Cells, cell_cmp, find_cell}
 use Rattle.ecf_interp.specs.ReadCells.{HasCellsOf}
 
 cell_cmp_total : IsTotalOrder cell_cmp
@@ -17,7 +17,7 @@ same_back : (a b : Cell) → is_eq (cell_cmp a b) ≡ is_eq (cell_cmp b a)
 same_back a b = (eq_by_cmp_equiv cell_cmp_total).symm a b
 
 -- a pair at the end is found where no earlier one is
-found-push : (pairs : Cells) (cell : Cell) (value : ℕ) (q : Cell) → is_some (found (pairs ++ (cell, value) ∷ []) q) ≡ cond (is_at (cell_cmp cell) q) true (is_some (found pairs q))
+found-push : (pairs : Cells) (cell : Cell) (value : ℕ) (q : Cell) → is_some (find_cell (pairs ++ (cell, value) ∷ []) q) ≡ cond (is_at (cell_cmp cell) q) true (is_some (find_cell pairs q))
 found-push [] cell value q = ends (is_eq (cell_cmp q cell)) (is_eq (cell_cmp cell q)) (same_back q cell)
   where
     ends : (a b : Bool) → a ≡ b → is_some (cond a (Some value) None) ≡ cond b true false

@@ -24,8 +24,8 @@ use Rattle.ecf_lang.specs.declared.typed.TypedStmt.TheVariants as stmt
 use Rattle.ecf_lang.specs.declared.typed.TypedBlock.{TypedBlock, out-TypedBlock}
 use Rattle.ecf_lang.specs.Store.{Store}
 use Rattle.ecf_lang.specs.Fits.{method_at}
-use Rattle.ecf_lang.specs.Running.{State, Reached, Gives, Halts, RunsOut, Running, after, ◌>>=◌, ◌>>◌, pure, revert, pay, changed, charged, read_cell, write_cell, begin, note, answering}
-use Rattle.ecf_lang.specs.Meaning.{Frame, Flow, On, Back, value_of, stmt_of, charge, fetch, chain, own, named, or_revert, applied, in_turn, on, body_of, locals_of, frame_of, ways, invoke, fresh, calls_of, ran, run, answered}
+use Rattle.ecf_lang.specs.Part.{State, Control, Done, Exit, RunsOut, Part, after, ◌>>=◌, ◌>>◌, pure, revert, pay, with_change, with_charge, read_cell, write_cell, begin, note, with_answer}
+use Rattle.ecf_lang.specs.Meaning.{Frame, Flow, Continues, Returns, value_of, stmt_of, charge, fetch, chain, own_cell, name_value, or_revert, op_value, sequence, go_on, body_of, locals_of, frame_of, ways, invoke, initial_state, calls_of, result_of, run, flow_answer}
 use Rattle.ecf_lang.proofs.Forms.{value_number, value_name, value_sum, stmt_set, stmt_return, stmt_revert, block_is, anew_is}
 use Rattle.ecf_interp.specs.Built.{IsBuilt, IsBuiltStmt, IsBuiltBlock, is_built_expr, is_built_part, is_built_stmt, is_add, is_plain, is_field}
 use Rattle.ecf_interp.specs.Load.{size_of, parts_size}
@@ -35,20 +35,20 @@ use Rattle.ecf_interp.proofs.Sizes.{size_sum}
 use Rattle.ecf_interp.proofs.CallSteps.{method_built}
 
 -- the state that a part of a run leads to
-abbrev pub reached_state : {A : Type 0} → Reached A → State
-reached_state (Gives value s) = s
-reached_state (Halts halt s) = s
+abbrev pub reached_state : {A : Type 0} → Control A → State
+reached_state (Done value s) = s
+reached_state (Exit halt s) = s
 
 -- steps that are all of this invocation
 abbrev pub AreOf : ℕ → State → Type 0
 AreOf inv s = All (λ step. step.inv ≡ inv) s.steps
 
 -- a part of a run that makes no steps but in this invocation
-pub record Stays {A : Type 0} (inv : ℕ) (part : Running A) : Type 0 where
+pub record Stays {A : Type 0} (inv : ℕ) (part : Part A) : Type 0 where
   pub kept : (s : State) → AreOf inv s → AreOf inv (reached_state (part s))
 
 module _ (inv : ℕ) where
-  stays_is : {A : Type 0} (f g : Running A) → ((s : State) → f s ≡ g s) → Stays inv g → Stays inv f
+  stays_is : {A : Type 0} (f g : Part A) → ((s : State) → f s ≡ g s) → Stays inv g → Stays inv f
   stays_is f g same stays = record { kept = λ s h. subst (λ r. AreOf inv (reached_state r)) (sym (same s)) (stays.kept s h) }
 
   stays_pure : {A : Type 0} (x : A) → Stays inv (pure x)
@@ -57,18 +57,18 @@ module _ (inv : ℕ) where
   stays_revert : {A : Type 0} (cause : Cause) → Stays inv (revert {A = A} cause)
   stays_revert cause = record { kept = λ s h. h }
 
-  pub stays_then : {A B : Type 0} (part : Running A) (next : A → Running B) → Stays inv part → ((x : A) → Stays inv (next x)) → Stays inv (part >>= next)
+  pub stays_then : {A B : Type 0} (part : Part A) (next : A → Part B) → Stays inv part → ((x : A) → Stays inv (next x)) → Stays inv (part >>= next)
   stays_then part next first further = record { kept = λ s h. goes_on (part s) (first.kept s h) }
     where
-      goes_on : (r : Reached _) → AreOf inv (reached_state r) → AreOf inv (reached_state (after r next))
-      goes_on (Gives x s) h = (further x).kept s h
-      goes_on (Halts halt s) h = h
+      goes_on : (r : Control _) → AreOf inv (reached_state r) → AreOf inv (reached_state (after r next))
+      goes_on (Done x s) h = (further x).kept s h
+      goes_on (Exit halt s) h = h
 
   stays_pay : (n : ℕ) → Stays inv (pay inv n)
   unfolding pay
   stays_pay n = record { kept = λ s h. by_test s h (nat_le n s.fuel) }
     where
-      by_test : (s : State) → AreOf inv s → (b : Bool) → AreOf inv (reached_state (if b then Gives (tt {0}) (record s { fuel = s.fuel - n; invocations = changed (charged n) s.invocations inv }) else Halts RunsOut (record s { fuel = 0 })))
+      by_test : (s : State) → AreOf inv s → (b : Bool) → AreOf inv (reached_state (if b then Done (tt {0}) (record s { fuel = s.fuel - n; invocations = with_change (with_charge n) s.invocations inv }) else Exit RunsOut (record s { fuel = 0 })))
       by_test s h true = h
       by_test s h false = h
 
@@ -91,11 +91,11 @@ module _ (store : Store) (frame : Frame) where
   stays_charge : (n : ℕ) → Stays frame.inv (charge store frame n)
   stays_charge n = stays_pay frame.inv n
 
-  stays_paid : {A : Type 0} (n : ℕ) (part : Running A) → Stays frame.inv part → Stays frame.inv (charge store frame n >> part)
+  stays_paid : {A : Type 0} (n : ℕ) (part : Part A) → Stays frame.inv part → Stays frame.inv (charge store frame n >> part)
   stays_paid n part stays = stays_then frame.inv (charge store frame n) (λ _. part) (stays_charge n) (λ _. stays)
 
   module _ (locals : List ℕ) where
-    abbrev value : TypedExpr → Running ℕ
+    abbrev value : TypedExpr → Part ℕ
     value e = value_of store frame locals e
 
     -- the further parts of a sum, where smaller expressions stay
@@ -105,15 +105,15 @@ module _ (store : Store) (frame : Frame) where
         let both = three (is_add part.0) (is_built_expr part.1) (list_all is_built_part rest) built in
         let others = parts_stay n smaller rest (omega arith) both.1 in
         stays_then frame.inv (value part.1) _ (smaller part.1 (omega arith) both.0) (λ y.
-        stays_paid 1 _ (stays_then frame.inv (or_revert (applied part.0 x y)) _ (stays_result frame.inv (applied part.0 x y)) others))
+        stays_paid 1 _ (stays_then frame.inv (or_revert (op_value part.0 x y)) _ (stays_result frame.inv (op_value part.0 x y)) others))
       where
         three : (a b c : Bool) → (a && b && c) ≡ true → (b ≡ true) × (c ≡ true)
         three true true c h = (refl, h)
         three true false c h = absurd (false≢true h)
         three false b c h = absurd (false≢true h)
 
-    name_stays : (place : Place) → is_plain place ≡ true → Stays frame.inv (named store frame locals place)
-    name_stays (place.Plain field) built = stays_paid 3 (fetch store frame field 0) (stays_read frame.inv store (own store frame field 0))
+    name_stays : (place : Place) → is_plain place ≡ true → Stays frame.inv (name_value store frame locals place)
+    name_stays (place.Plain field) built = stays_paid 3 (fetch store frame field 0) (stays_read frame.inv store (own_cell store frame field 0))
     name_stays _ built = absurd (false≢true built)
 
     -- an expression, where smaller ones stay
@@ -147,7 +147,7 @@ module _ (store : Store) (frame : Frame) where
     set_stays : (to : Assignee) (e : TypedExpr) → is_field to && is_built_expr e ≡ true → Stays frame.inv (stmt_of store frame (stmt.Set to e) locals)
     set_stays (assignee.Plain field) e built =
         stays_is frame.inv _ _ (stmt_set store frame (assignee.Plain field) e locals) (stays_paid 1 _ (stays_then frame.inv (value e) _ (value_stays e built) (λ v.
-        stays_paid 4 _ (stays_then frame.inv (write_cell frame.inv (own store frame field 0) v) _ (stays_write frame.inv (own store frame field 0) v) (λ _. stays_pure frame.inv (On locals))))))
+        stays_paid 4 _ (stays_then frame.inv (write_cell frame.inv (own_cell store frame field 0) v) _ (stays_write frame.inv (own_cell store frame field 0) v) (λ _. stays_pure frame.inv (Continues locals))))))
     set_stays (assignee.Local n) e built = absurd (false≢true built)
 
     stmt_stays : (t : TypedStmt) → is_built_stmt (out-TypedStmt t) ≡ true → Stays frame.inv (stmt_of store frame t locals)
@@ -160,28 +160,28 @@ module _ (store : Store) (frame : Frame) where
         layers (TypedStmt-F.Set to e) is built = at (stmt.Set to e) (is ∙ stmt.rolls-Set to e) (set_stays to e built)
         layers (TypedStmt-F.Return e) is built =
             at (stmt.Return e) (is ∙ stmt.rolls-Return e) (stays_is frame.inv _ _ (stmt_return store frame e locals)
-            (stays_paid 1 _ (stays_then frame.inv (value e) _ (value_stays e built) (λ v. stays_pure frame.inv (Back v)))))
+            (stays_paid 1 _ (stays_then frame.inv (value e) _ (value_stays e built) (λ v. stays_pure frame.inv (Returns v)))))
         layers (TypedStmt-F.Revert e) is built =
             at (stmt.Revert e) (is ∙ stmt.rolls-Revert e) (stays_is frame.inv _ _ (stmt_revert store frame e locals)
             (stays_paid 1 _ (stays_then frame.inv (value e) _ (value_stays e built) (λ v. stays_revert frame.inv (User v)))))
         layers l is built = absurd (false≢true built)
 
   -- statements one after the other
-  stmts_stay : (stmts : List TypedStmt) → All IsBuiltStmt stmts → (locals : List ℕ) → Stays frame.inv (in_turn store frame (map (stmt_of store frame) stmts) locals)
-  stmts_stay [] built locals = stays_pure frame.inv (On locals)
+  stmts_stay : (stmts : List TypedStmt) → All IsBuiltStmt stmts → (locals : List ℕ) → Stays frame.inv (sequence store frame (map (stmt_of store frame) stmts) locals)
+  stmts_stay [] built locals = stays_pure frame.inv (Continues locals)
   stmts_stay (first ∷ rest) built locals = begun (stmts_stay rest (λ k d within. built (suc k) d (omega arith)))
     where
-      begun : ((locals : List ℕ) → Stays frame.inv (in_turn store frame (map (stmt_of store frame) rest) locals)) → Stays frame.inv (in_turn store frame (map (stmt_of store frame) (first ∷ rest)) locals)
+      begun : ((locals : List ℕ) → Stays frame.inv (sequence store frame (map (stmt_of store frame) rest) locals)) → Stays frame.inv (sequence store frame (map (stmt_of store frame) (first ∷ rest)) locals)
       begun others =
           stays_then frame.inv (stmt_of store frame first locals) _ (stmt_stays locals first (built 0 first (omega arith))) flows
         where
-          flows : (flow : Flow) → Stays frame.inv (on flow (in_turn store frame (map (stmt_of store frame) rest)))
-          flows (On locals) = others locals
-          flows (Back answer) = stays_pure frame.inv (Back answer)
+          flows : (flow : Flow) → Stays frame.inv (go_on flow (sequence store frame (map (stmt_of store frame) rest)))
+          flows (Continues locals) = others locals
+          flows (Returns answer) = stays_pure frame.inv (Returns answer)
 
   body_stays : (method : TypedMethod) (args : List ℕ) → IsBuiltBlock method.body → Stays frame.inv (body_of store frame (Some method) args)
   body_stays method args built =
-      stays_then frame.inv _ _ (stays_is frame.inv _ _ (block_is store frame method.body (locals_of method args)) (stmts_stay (out-TypedBlock method.body).stmts built (locals_of method args))) (λ flow. stays_pure frame.inv (answered flow))
+      stays_then frame.inv _ _ (stays_is frame.inv _ _ (block_is store frame method.body (locals_of method args)) (stmts_stay (out-TypedBlock method.body).stmts built (locals_of method args))) (λ flow. stays_pure frame.inv (flow_answer flow))
 
 -- no steps are of any invocation
 no_steps : (inv : ℕ) (steps : List Step) → steps ≡ [] → All (λ step. step.inv ≡ inv) steps
@@ -189,24 +189,24 @@ no_steps inv [] is = λ k d within. absurd (omega arith)
 no_steps inv (step ∷ steps) is = cc
 
 -- the first call of a transaction
-first_call : (typed : Typed) (store : Store) (to name : ℕ) (args : List ℕ) (fuel : ℕ) → IsBuilt typed → AreOf 0 (reached_state ((ways typed store 64).anew to name args (fresh fuel)))
+first_call : (typed : Typed) (store : Store) (to name : ℕ) (args : List ℕ) (fuel : ℕ) → IsBuilt typed → AreOf 0 (reached_state ((ways typed store 64).anew to name args (initial_state fuel)))
 first_call typed store to name args fuel built =
-    subst (λ r. AreOf 0 (reached_state r)) (sym (anew_is typed store 63 to name args (fresh fuel))) (by_method (method_at typed to name) refl)
+    subst (λ r. AreOf 0 (reached_state r)) (sym (anew_is typed store 63 to name args (initial_state fuel))) (by_method (method_at typed to name) refl)
   where
-    by_method : (found : Option TypedMethod) → method_at typed to name ≡ found → AreOf 0 (reached_state (invoke typed store (ways typed store 63) to found name args (fresh fuel)))
+    by_method : (found : Option TypedMethod) → method_at typed to name ≡ found → AreOf 0 (reached_state (invoke typed store (ways typed store 63) to found name args (initial_state fuel)))
     by_method None is = no_steps 0 [] refl
     by_method (Some method) is =
         (stays_then 0 (body_of store (frame_of typed store (ways typed store 63) to 0) (Some method) args) _
         (body_stays store (frame_of typed store (ways typed store 63) to 0) method args (method_built typed to name method built is))
-        (λ v. stays_then 0 (note (answering v) 0) _ (stays_note 0 (answering v) 0) (λ _. stays_pure 0 v))).kept (reached_state (begin to name args (fresh fuel))) (no_steps 0 [] refl)
+        (λ v. stays_then 0 (note (with_answer v) 0) _ (stays_note 0 (with_answer v) 0) (λ _. stays_pure 0 v))).kept (reached_state (begin to name args (initial_state fuel))) (no_steps 0 [] refl)
 
 -- a run's steps are those of where its calls led
-ran_steps : (store : Store) (limit : ℕ) (r : Reached ℕ) → (ran store limit r).steps ≡ (reached_state r).steps
-ran_steps store limit (Gives value s) = refl
-ran_steps store limit (Halts halt s) = refl
+ran_steps : (store : Store) (limit : ℕ) (r : Control ℕ) → (result_of store limit r).steps ≡ (reached_state r).steps
+ran_steps store limit (Done value s) = refl
+ran_steps store limit (Exit halt s) = refl
 
 pub steps_are_of_the_first : StepsAreOfTheFirst
 unfolding run
 steps_are_of_the_first typed store tx call built one =
-    subst (All (λ step. step.inv ≡ 0)) (sym (ran_steps store tx.fuel (calls_of typed store tx.calls (fresh tx.fuel))))
-    (subst (λ calls. AreOf 0 (reached_state (calls_of typed store calls (fresh tx.fuel)))) (sym one) (first_call typed store call.object call.method call.args tx.fuel built))
+    subst (All (λ step. step.inv ≡ 0)) (sym (ran_steps store tx.fuel (calls_of typed store tx.calls (initial_state tx.fuel))))
+    (subst (λ calls. AreOf 0 (reached_state (calls_of typed store calls (initial_state tx.fuel)))) (sym one) (first_call typed store call.object call.method call.args tx.fuel built))

@@ -7,8 +7,8 @@ use Rattle.ecf_lang.specs.declared.typed.Assignee.TheVariants as assignee
 use Rattle.ecf_lang.specs.declared.typed.TypedExpr.{TypedExpr}
 use Rattle.ecf_lang.specs.declared.typed.TypedStmt.{TypedStmt}
 use Rattle.ecf_lang.specs.Store.{Store}
-use Rattle.ecf_lang.specs.Running.{Reached, Running, ◌>>=◌, ◌>>◌, pure, revert}
-use Rattle.ecf_lang.specs.Meaning.{Opens, Frame, Flow, On, Back, charge, chain, or_revert, applied, value_of, stmt_of, in_turn, assign}
+use Rattle.ecf_lang.specs.Part.{Control, Part, ◌>>=◌, ◌>>◌, pure, revert}
+use Rattle.ecf_lang.specs.Meaning.{Opens, Frame, Flow, Continues, Returns, charge, chain, or_revert, op_value, value_of, stmt_of, sequence, assign}
 use Rattle.ecf_interp.specs.declared.machine.Task.{Task}
 use Rattle.ecf_interp.specs.declared.machine.Task.TheVariants as task
 use Rattle.ecf_interp.specs.declared.machine.Doing.{Doing}
@@ -17,34 +17,34 @@ use Rattle.ecf_interp.specs.declared.machine.Machine.{Machine}
 use Rattle.ecf_interp.specs.Reach.{reached}
 
 -- on from a statement to what waits for its end, unless the method is over
-abbrev pub settled : (List ℕ → ℕ → Running ℕ) → Flow → Running ℕ
-settled next (On locals) = next locals 0
-settled next (Back answer) = pure answer
+abbrev pub settled : (List ℕ → ℕ → Part ℕ) → Flow → Part ℕ
+settled next (Continues locals) = next locals 0
+settled next (Returns answer) = pure answer
 
 module _ (store : Store) (frame : Frame) where
   -- the further parts of a sum, each with its operator
-  abbrev pub parts_of : List ℕ → List (Op × TypedExpr) → List (Op × Running ℕ)
+  abbrev pub parts_of : List ℕ → List (Op × TypedExpr) → List (Op × Part ℕ)
   parts_of locals rest = map (λ part. (part.0, value_of store frame locals part.1)) rest
 
   -- a list of statements
-  abbrev pub stmts_of : List TypedStmt → List ℕ → Running Flow
-  stmts_of stmts = in_turn store frame (map (stmt_of store frame) stmts)
+  abbrev pub stmts_of : List TypedStmt → List ℕ → Part Flow
+  stmts_of stmts = sequence store frame (map (stmt_of store frame) stmts)
 
   -- on with these statements, and then with what waits for their end
-  abbrev pub then_stmts : List TypedStmt → (List ℕ → ℕ → Running ℕ) → List ℕ → ℕ → Running ℕ
+  abbrev pub then_stmts : List TypedStmt → (List ℕ → ℕ → Part ℕ) → List ℕ → ℕ → Part ℕ
   then_stmts stmts next locals value = stmts_of stmts locals >>= settled next
 
   -- a `+` of a sum so far and a part, with its charge, and the parts after it
-  abbrev pub added : ℕ → ℕ → List ℕ → List (Op × TypedExpr) → Running ℕ
+  abbrev pub added : ℕ → ℕ → List ℕ → List (Op × TypedExpr) → Part ℕ
   added total value locals rest =
-      charge store frame 1 >> (or_revert (applied op.Add total value) >>= (λ sum. chain store frame sum (parts_of locals rest)))
+      charge store frame 1 >> (or_revert (op_value op.Add total value) >>= (λ sum. chain store frame sum (parts_of locals rest)))
 
   -- an assignment to a plain field, from its value on
-  abbrev pub assigned : ℕ → ℕ → List ℕ → Running Flow
+  abbrev pub assigned : ℕ → ℕ → List ℕ → Part Flow
   assigned field value = assign store frame (assignee.Plain field) value
 
   -- what a task makes of a value, before what waits for its own
-  abbrev pub onward : Task → (List ℕ → ℕ → Running ℕ) → List ℕ → ℕ → Running ℕ
+  abbrev pub onward : Task → (List ℕ → ℕ → Part ℕ) → List ℕ → ℕ → Part ℕ
   onward (task.Sum rest) next locals value = chain store frame value (parts_of locals rest.now) >>= next locals
   onward (task.Add total rest) next locals value = added total value locals rest.now >>= next locals
   onward (task.Assign field) next locals value = assigned field value locals >>= settled next
@@ -53,7 +53,7 @@ module _ (store : Store) (frame : Frame) where
   onward (task.Next stmts) next locals value = then_stmts stmts.now next locals value
 
   -- the method's answer, from what the tasks make of a value
-  abbrev pub plug : List Task → List ℕ → ℕ → Running ℕ
+  abbrev pub plug : List Task → List ℕ → ℕ → Part ℕ
   plug [] locals value = pure value
   plug (waits ∷ tasks) locals value = onward waits (plug tasks) locals value
 
@@ -67,54 +67,54 @@ module _ {R : Type 0} (store_of : R → Store) (machine : Machine R) where
   frame_in opens = record { here = machine.frame.object; inv = machine.frame.inv; opens = opens }
 
   -- what the tasks make of a value
-  abbrev pub plug_in : Opens → List ℕ → ℕ → Running ℕ
+  abbrev pub plug_in : Opens → List ℕ → ℕ → Part ℕ
   plug_in opens = plug store_in (frame_in opens) machine.frame.tasks
 
   -- the value of an expression
-  abbrev pub value_in : Opens → List ℕ → TypedExpr → Running ℕ
+  abbrev pub value_in : Opens → List ℕ → TypedExpr → Part ℕ
   value_in opens locals expr = value_of store_in (frame_in opens) locals expr
 
   -- the answer, from statements
-  abbrev pub means_body : List TypedStmt → Opens → List ℕ → Reached ℕ
+  abbrev pub means_body : List TypedStmt → Opens → List ℕ → Control ℕ
   means_body stmts opens locals = (stmts_of store_in (frame_in opens) stmts locals >>= settled (plug_in opens)) machine.state
 
   -- the answer, where a charge and a value for this task come before these statements
-  abbrev pub means_wait : Task → TypedExpr → List TypedStmt → Opens → List ℕ → Reached ℕ
+  abbrev pub means_wait : Task → TypedExpr → List TypedStmt → Opens → List ℕ → Control ℕ
   means_wait waits expr rest opens locals =
       (charge store_in (frame_in opens) 1 >> (value_in opens locals expr >>= onward store_in (frame_in opens) waits (then_stmts store_in (frame_in opens) rest (plug_in opens)) locals)) machine.state
 
   -- the answer, from an expression
-  abbrev pub means_eval : TypedExpr → Opens → List ℕ → Reached ℕ
+  abbrev pub means_eval : TypedExpr → Opens → List ℕ → Control ℕ
   means_eval expr opens locals = (value_in opens locals expr >>= plug_in opens locals) machine.state
 
   -- the answer, from the total of a sum so far and its further parts
-  abbrev pub means_further : ℕ → List (Op × TypedExpr) → Opens → List ℕ → Reached ℕ
+  abbrev pub means_further : ℕ → List (Op × TypedExpr) → Opens → List ℕ → Control ℕ
   means_further total rest opens locals =
       (chain store_in (frame_in opens) total (parts_of store_in (frame_in opens) locals rest) >>= plug_in opens locals) machine.state
 
   -- the answer, from both sides of a `+`
-  abbrev pub means_add : ℕ → ℕ → List (Op × TypedExpr) → Opens → List ℕ → Reached ℕ
+  abbrev pub means_add : ℕ → ℕ → List (Op × TypedExpr) → Opens → List ℕ → Control ℕ
   means_add total value rest opens locals = (added store_in (frame_in opens) total value locals rest >>= plug_in opens locals) machine.state
 
   -- the answer, from the value that a plain field takes
-  abbrev pub means_assign : ℕ → ℕ → Opens → List ℕ → Reached ℕ
+  abbrev pub means_assign : ℕ → ℕ → Opens → List ℕ → Control ℕ
   means_assign field value opens locals = (assigned store_in (frame_in opens) field value locals >>= settled (plug_in opens)) machine.state
 
   -- the answer, from a value for this task
-  abbrev pub means_task : Task → ℕ → Opens → List ℕ → Reached ℕ
+  abbrev pub means_task : Task → ℕ → Opens → List ℕ → Control ℕ
   means_task waits value opens locals = onward store_in (frame_in opens) waits (plug_in opens) locals value machine.state
 
   -- the answer, from a value
-  abbrev pub means_give : ℕ → Opens → List ℕ → Reached ℕ
+  abbrev pub means_give : ℕ → Opens → List ℕ → Control ℕ
   means_give value opens locals = plug_in opens locals value machine.state
 
   -- the answer, from what the machine does next
-  abbrev pub means : Doing → Opens → List ℕ → Reached ℕ
+  abbrev pub means : Doing → Opens → List ℕ → Control ℕ
   means (Body stmts) = means_body stmts.now
   means (Eval expr) = means_eval expr.now
   means (Give value) = means_give value
   means (Over outcome) = λ opens locals. reached outcome machine.state
 
 -- both are the same, however frames are opened and whatever the locals are
-abbrev pub Keeps : (Opens → List ℕ → Reached ℕ) → (Opens → List ℕ → Reached ℕ) → Type 0
+abbrev pub Keeps : (Opens → List ℕ → Control ℕ) → (Opens → List ℕ → Control ℕ) → Type 0
 Keeps before after = (opens : Opens) (locals : List ℕ) → before opens locals ≡ after opens locals

@@ -1,9 +1,9 @@
-//! Running a transaction: a machine of small tasks, equal to what the contract means.
+//! Part a transaction: a machine of small tasks, equal to what the contract means.
 #![tactic(auto)]
 
 ghost use Rattle.std.specs.Prelude.{◌≡◌, IfOk};
 ghost use Rattle.ecf_lang.specs.Fits.{Fits};
-ghost use Rattle.ecf_lang.specs.Meaning.{recorded, run as meaning_of};
+ghost use Rattle.ecf_lang.specs.Meaning.{kept_run, run as meaning_of};
 ghost use Rattle.ecf_interp.specs.Built.{IsBuilt};
 
 pub mod built;
@@ -32,7 +32,7 @@ pub fn run<'a, R: CellRead>(
 ) -> Result<Run, AllocError>
     requires fits { Fits typed.now tx.now }
     requires built { IsBuilt typed.now }
-    ensures { IfOk result (λ r. r ≡ recorded (meaning_of typed.now (R.store store.now) tx.now)) }
+    ensures { IfOk result (λ r. r ≡ kept_run (meaning_of typed.now (R.store store.now) tx.now)) }
 {
     let state = RunState::new(alloc, tx.fuel);
     let (outcome, state) = calls::run_calls(alloc, typed, store, tx.calls.as_slice(), state)?;

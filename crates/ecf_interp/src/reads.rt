@@ -1,7 +1,7 @@
 //! What a run read from the store.
 
 ghost use Rattle.std.specs.Prelude.{◌≡◌, [], ◌∷◌, ◌++◌, OnOk, is_some};
-ghost use Rattle.ecf_lang.specs.Store.{found};
+ghost use Rattle.ecf_lang.specs.Store.{find_cell};
 
 use ecf_lang::cell::Cell;
 use std::alloc::{AllocError, Global};
@@ -38,7 +38,7 @@ impl Reads {
     }
 
     pub(crate) fn contains(&self, cell: Cell) -> bool
-        ensures { result ≡ is_some (found self.now cell) }
+        ensures { result ≡ is_some (find_cell self.now cell) }
     {
         self.cells.contains(&cell)
     }

@@ -2,8 +2,8 @@
 
 ghost use Rattle.std.specs.Prelude.{◌≡◌, ◌+◌, ◌^◌, ◌<◌, length, List, ℕ, All, IfOk, OnOk};
 ghost use Rattle.ecf_lang.specs.Store.{Store};
-ghost use Rattle.ecf_lang.specs.Running.{Gives, after, pay, read_cell, write_cell, note, begin, answering, charged, changed};
-ghost use Rattle.ecf_lang.specs.Meaning.{fresh, ran, recorded};
+ghost use Rattle.ecf_lang.specs.Part.{Done, after, pay, read_cell, write_cell, note, begin, with_answer, with_charge, with_change};
+ghost use Rattle.ecf_lang.specs.Meaning.{initial_state, result_of, kept_run};
 ghost use Rattle.ecf_interp.specs.Reach.{paid, reached, closing};
 
 use crate::reads::Reads;
@@ -25,7 +25,7 @@ pub(crate) struct RunState {
 }
 
 impl Model for RunState {
-    ghost use Rattle.ecf_lang.specs.Running.{State};
+    ghost use Rattle.ecf_lang.specs.Part.{State};
     ghost use Rattle.ecf_interp.specs.Charges.{Bounded};
 
     ghost Value = { State };
@@ -37,7 +37,7 @@ impl Model for RunState {
 
 impl RunState {
     pub(crate) fn new(alloc: Global, fuel: u32) -> RunState
-        ensures { result ≡ fresh fuel }
+        ensures { result ≡ initial_state fuel }
     {
         RunState {
             fuel,
@@ -68,7 +68,7 @@ impl RunState {
         inv: u16,
         cell: Cell,
     ) -> Result<u128, AllocError>
-        ensures { IfOk result (λ v. read_cell (R.store store.now) inv cell self.old ≡ Gives v self.new) }
+        ensures { IfOk result (λ v. read_cell (R.store store.now) inv cell self.old ≡ Done v self.new) }
     {
         let value = match self.written.get(&cell) {
             Some(value) => *value,
@@ -90,7 +90,7 @@ impl RunState {
     }
 
     pub(crate) fn write(&mut self, inv: u16, cell: Cell, value: u128) -> Result<(), AllocError>
-        ensures { OnOk result (write_cell inv cell value self.old ≡ Gives tt self.new) }
+        ensures { OnOk result (write_cell inv cell value self.old ≡ Done tt self.new) }
     {
         self.written.insert(cell, value)?;
         self.steps.push(Step {
@@ -116,7 +116,7 @@ impl RunState {
         args: Items<u128>,
     ) -> Result<u16, AllocError>
         requires { length self.old.invocations < 1024 }
-        ensures { IfOk result (λ inv. begin object method args self.old ≡ Gives inv self.new) }
+        ensures { IfOk result (λ inv. begin object method args self.old ≡ Done inv self.new) }
     {
         let inv = self.invocations.len() as u16;
         self.invocations.push(Invocation {
@@ -141,7 +141,7 @@ impl RunState {
     }
 
     fn answer(&mut self, inv: u16, value: u128)
-        ensures { note (answering value) inv self.old ≡ Gives tt self.new }
+        ensures { note (with_answer value) inv self.old ≡ Done tt self.new }
     {
         if let Some(invocation) = self.invocations.get_mut(usize::from(inv)) {
             invocation.answer = Some(value);
@@ -155,7 +155,7 @@ impl RunState {
         fuel: u32,
         outcome: Outcome,
     ) -> Result<Run, AllocError>
-        ensures { IfOk result (λ r. (store : Store) → r ≡ recorded (ran store fuel (reached outcome self))) }
+        ensures { IfOk result (λ r. (store : Store) → r ≡ kept_run (result_of store fuel (reached outcome self))) }
     {
         let RunState {
             fuel: left,
@@ -182,7 +182,7 @@ impl RunState {
 /// Adds a charge to what an invocation has paid.
 fn charge(invocations: &mut Vec<Invocation>, inv: u16, fuel: u32)
     requires { All (λ one. one.own_fuel + fuel < 2 ^ 32) invocations.old.items }
-    ensures { invocations.new.items ≡ changed (charged fuel) invocations.old.items inv }
+    ensures { invocations.new.items ≡ with_change (with_charge fuel) invocations.old.items inv }
 {
     if let Some(invocation) = invocations.get_mut(usize::from(inv)) {
         invocation.own_fuel += fuel;

@@ -2,8 +2,8 @@
 use Rattle.std.proofs.Common.{◌≡◌, [], ◌∷◌, Some, refl}
 use Rattle.ecf_lang.specs.declared.receipt.Receipt.TheVariants.{Committed}
 use Rattle.ecf_lang.specs.declared.run.Outcome.TheVariants.{Answer}
-use Rattle.ecf_lang.specs.Meaning.{run, Ran}
-use Rattle.ecf_lang.specs.Running.{pay, read_cell, write_cell, tried}
+use Rattle.ecf_lang.specs.Meaning.{run, RunResult}
+use Rattle.ecf_lang.specs.Part.{pay, read_cell, write_cell, attempt_of}
 use Rattle.ecf_lang.specs.Store.{Store}
 use Rattle.ecf_cases.specs.Counter.{bump, counted, counter, n}
 use Rattle.ecf_cases.specs.Words.{invoked, reads, writes}
@@ -17,7 +17,7 @@ abbrev between : Store
 between = (n, 1) ∷ []
 
 -- what the second comes to
-abbrev counted_on : Ran
+abbrev counted_on : RunResult
 counted_on = record {
   outcome = Answer 2;
   fuel = 14;
@@ -29,7 +29,7 @@ counted_on = record {
 }
 
 counts_on : run counter between bump ≡ counted_on
-unfolding pay read_cell write_cell tried
+unfolding pay read_cell write_cell attempt_of
 counts_on = run_is counter (search contracts depth 40 fits 4000) between bump
 
 first_receipt : receipt_on counter [] bump ≡ Committed 1 14 []

@@ -8,7 +8,7 @@ use Rattle.ecf_lang.specs.declared.typed.TypedObject.{TypedObject}
 use Rattle.ecf_lang.specs.declared.typed.TypedMethod.{TypedMethod}
 use Rattle.ecf_lang.specs.declared.tx.Tx.{Tx}
 use Rattle.ecf_lang.specs.declared.tx.TxCall.{TxCall}
-use Rattle.ecf_lang.specs.declared.limits.TheConstants.{MAX_FUEL}
+use Rattle.ecf_lang.specs.declared.limits.TheConstants.{MAX_CALLS, MAX_FUEL}
 
 -- the method of that name in an object
 abbrev pub method_of : TypedObject → ℕ → Option TypedMethod
@@ -36,7 +36,7 @@ pub record CallFits (typed : Typed) (call : TxCall) : Type 0 where
 -- one to eight calls that fit, and a fuel limit from 1 to 1,000,000
 pub record Fits (typed : Typed) (tx : Tx) : Type 0 where
   pub some_call : 1 ≤ length tx.calls
-  pub few_calls : length tx.calls ≤ 8
+  pub few_calls : length tx.calls ≤ MAX_CALLS
   pub calls : All (CallFits typed) tx.calls
   pub some_fuel : 1 ≤ tx.fuel
   pub fuel : tx.fuel ≤ MAX_FUEL

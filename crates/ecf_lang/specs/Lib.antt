@@ -1,7 +1,7 @@
 pub mod Store
 pub mod Fits
 pub mod Genesis
-pub mod Running
+pub mod Part
 pub mod Meaning
 pub mod Alone
 pub mod Draft

@@ -29,12 +29,12 @@ pub record IsStore (pairs : Cells) : Type 0 where
   pub above_0 : All (λ p. 0 < p.1) pairs
 
 -- the number of a cell among some pairs, if it has one
-abbrev pub found : Cells → Cell → Option ℕ
-found pairs cell = lookup (is_at (cell_cmp cell)) pairs
+abbrev pub find_cell : Cells → Cell → Option ℕ
+find_cell pairs cell = lookup (is_at (cell_cmp cell)) pairs
 
 -- what a cell reads in a store: 0 where it is absent
 abbrev pub read : Store → Cell → ℕ
-read store cell = unwrap_or (found store cell) 0
+read store cell = unwrap_or (find_cell store cell) 0
 
 -- the pairs with this number for the cell
 abbrev pub set : Cells → Cell → ℕ → Cells

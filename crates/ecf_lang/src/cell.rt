@@ -23,6 +23,9 @@ pub trait CellRead {
 
     /// What the cell reads in that store; 0 where it is absent.
     fn get(&self, cell: Cell) -> u128
-        ensures value { result ≡ read (store self.now) cell }
-        ensures is_store { IsStore (store self.now) };
+        ensures { result ≡ read (store self.now) cell };
+
+    /// Makes known that it is a store: rising, and without zeros.
+    fn know_store(&self)
+        ensures { IsStore (store self.now) };
 }

@@ -10,7 +10,7 @@ pub struct Order {
     pub invs: Items<u16>,
 }
 
-/// What became of a transaction. Only a committed one changes the store.
+/// What became of a transaction, with the fuel that its run used. Only a committed one changes the store.
 #[derive(Debug, Drop)]
 pub enum Receipt {
     Committed {
@@ -31,6 +31,11 @@ pub enum Receipt {
         /// The number of steps of the shortest prefix of the object's trace that isn't free.
         at: u32,
         cycle: Items<u16>,
+        fuel: u32,
+    },
+    /// Voted down by a watch; the number is the watch's place, from 0.
+    Barred {
+        watch: u16,
         fuel: u32,
     },
 }

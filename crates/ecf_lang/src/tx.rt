@@ -3,6 +3,7 @@
 ghost use Rattle.std.specs.Prelude.{◌≡◌, ◌↔◌, IsTrue};
 ghost use Rattle.ecf_lang.specs.Fits.{Fits, CallFits, ArgumentsFit, IsValue};
 
+use crate::limits::{MAX_CALLS, MAX_FUEL};
 use crate::tree::Ty;
 use crate::typed::Typed;
 use sqlite_items::Items;
@@ -36,9 +37,9 @@ pub fn fits(typed: &Typed, tx: &Tx) -> bool
 {
     let calls = tx.calls.as_slice();
     1 <= calls.len()
-        && calls.len() <= 8
+        && calls.len() <= MAX_CALLS
         && 1 <= tx.fuel
-        && tx.fuel <= crate::limits::MAX_FUEL
+        && tx.fuel <= MAX_FUEL
         && calls.iter().all(|call| call_fits(typed, call))
 }
 

@@ -10,7 +10,7 @@ use Rattle.ecf_lang.specs.declared.cell.Cell.{Cell}
 use Rattle.ecf_lang.specs.declared.run.Step.{Step}
 use Rattle.ecf_lang.specs.declared.run.Invocation.{Invocation}
 use Rattle.ecf_lang.specs.Store.{Store}
-use Rattle.ecf_lang.specs.Running.{State, Reached, Gives, Halts, Reverts, RunsOut, Running, after, pay, read_cell, write_cell, tried, begin, note, changed, charged, hearing, answering, undone}
+use Rattle.ecf_lang.specs.Part.{State, Control, Done, Exit, Reverts, RunsOut, Part, after, pay, read_cell, write_cell, attempt_of, begin, note, with_change, with_charge, with_heard, with_answer, as_undone}
 use Rattle.ecf_laws.specs.Parts.{led}
 use Rattle.ecf_laws.proofs.Options.{some_is}
 use Rattle.ecf_laws.specs.Laws.{charged_in}
@@ -56,15 +56,15 @@ pub record Keeps (k : ℕ) (old new : List Invocation) : Type 0 where
   pub marks_same : marks new ≡ marks old
   pub charges : charged_in new ≡ charged_in old + k
 
-changed_keeps : (k : ℕ) (change : Invocation → Invocation) → ((one : Invocation) → (change one).undone ≡ one.undone) → ((one : Invocation) → (change one).own_fuel ≡ one.own_fuel + k) → (xs : List Invocation) (n : ℕ) → slice_get (marks xs) n ≡ Some false → Keeps k xs (changed change xs n)
+changed_keeps : (k : ℕ) (change : Invocation → Invocation) → ((one : Invocation) → (change one).undone ≡ one.undone) → ((one : Invocation) → (change one).own_fuel ≡ one.own_fuel + k) → (xs : List Invocation) (n : ℕ) → slice_get (marks xs) n ≡ Some false → Keeps k xs (with_change change xs n)
 changed_keeps k change mark charge xs n h =
     let one = get_marked xs n false h in
     subst (λ o. Keeps k xs (option_map_or (λ x. slice_set xs n (change x)) o xs)) (sym one.1.0)
     (record { marks_same = set_marks xs n one.0 (change one.0) one.1.0 (mark one.0); charges = set_charged xs n k one.0 (change one.0) one.1.0 (charge one.0) })
 
-undone_charged : (xs : List Invocation) → charged_in (map undone xs) ≡ charged_in xs
+undone_charged : (xs : List Invocation) → charged_in (map as_undone xs) ≡ charged_in xs
 undone_charged [] = refl
-undone_charged (x ∷ xs) = omega (arith, undone_charged xs, sum_by-cons (λ (i : Invocation). i.own_fuel) x xs, sum_by-cons (λ (i : Invocation). i.own_fuel) (undone x) (map undone xs))
+undone_charged (x ∷ xs) = omega (arith, undone_charged xs, sum_by-cons (λ (i : Invocation). i.own_fuel) x xs, sum_by-cons (λ (i : Invocation). i.own_fuel) (as_undone x) (map as_undone xs))
 
 take_marks : (xs us : List Invocation) (more : List Bool) → marks us ≡ marks xs ++ more → marks (take (length xs) us) ≡ marks xs
 take_marks [] us more h = refl
@@ -85,18 +85,18 @@ abbrev pub StepsStand : List Bool → List Step → Type 0
 StepsStand marked steps = All (λ step. slice_get marked step.inv ≡ Some false) steps
 
 -- the fuel left and the fuel charged make what there was, or less where the fuel ran out
-abbrev pub Spent : ℕ → {T : Type 0} → Reached T → Type 0
-Spent before (Gives x t) = t.fuel + charged_in t.invocations ≡ before
-Spent before (Halts (Reverts cause) t) = t.fuel + charged_in t.invocations ≡ before
-Spent before (Halts RunsOut t) = t.fuel + charged_in t.invocations ≤ before
+abbrev pub Spent : ℕ → {T : Type 0} → Control T → Type 0
+Spent before (Done x t) = t.fuel + charged_in t.invocations ≡ before
+Spent before (Exit (Reverts cause) t) = t.fuel + charged_in t.invocations ≡ before
+Spent before (Exit RunsOut t) = t.fuel + charged_in t.invocations ≤ before
 
 -- from a state: earlier marks stay, steps are of invocations that stand, and fuel is spent where it is charged
-pub record Kept (s : State) {T : Type 0} (r : Reached T) : Type 0 where
+pub record Kept (s : State) {T : Type 0} (r : Control T) : Type 0 where
   pub more : (more : List Bool) × (marks (led r).invocations ≡ marks s.invocations ++ more)
   pub steps : StepsStand (marks s.invocations) s.steps → StepsStand (marks (led r).invocations) (led r).steps
   pub spent : Spent (s.fuel + charged_in s.invocations) r
 
-abbrev pub Accounts : (T : Type 0) → Option ℕ → Running T → Running T → Type 0
+abbrev pub Accounts : (T : Type 0) → Option ℕ → Part T → Part T → Type 0
 Accounts T o m n = (s : State) → Stands o s → Kept s (m s)
 
 stand_later : (old new more : List Bool) (steps : List Step) → new ≡ old ++ more → StepsStand old steps → StepsStand new steps
@@ -106,17 +106,17 @@ stands_later : (o : Option ℕ) (s u : State) (more : List Bool) → marks u.inv
 stands_later None s u more e h = tt
 stands_later (Some inv) s u more e h = ap (λ l. slice_get l inv) e ∙ get_more (marks s.invocations) more inv false h
 
-then_kept : {S T : Type 0} (s u : State) (x : S) (r : Reached T) → Kept s (Gives x u) → Kept u r → Kept s r
+then_kept : {S T : Type 0} (s u : State) (x : S) (r : Control T) → Kept s (Done x u) → Kept u r → Kept s r
 then_kept s u x r h k = record {
   more = (h.more.0 ++ k.more.0, k.more.1 ∙ ap (λ l. l ++ k.more.0) h.more.1 ∙ append_assoc (marks s.invocations) h.more.0 k.more.0);
   steps = λ before. k.steps (h.steps before);
   spent = subst (λ n. Spent n r) h.spent k.spent;
 }
 
-after_kept : {S T : Type 0} (o : Option ℕ) (s : State) (r : Reached S) (f : S → Running T) → Stands o s → Kept s r → ((x : S) (u : State) → Stands o u → Kept u (f x u)) → Kept s (after r f)
-after_kept o s (Gives x u) f stands h k = then_kept s u x (f x u) h (k x u (stands_later o s u h.more.0 h.more.1 stands))
-after_kept o s (Halts (Reverts cause) u) f stands h k = record { more = h.more; steps = h.steps; spent = h.spent }
-after_kept o s (Halts RunsOut u) f stands h k = record { more = h.more; steps = h.steps; spent = h.spent }
+after_kept : {S T : Type 0} (o : Option ℕ) (s : State) (r : Control S) (f : S → Part T) → Stands o s → Kept s r → ((x : S) (u : State) → Stands o u → Kept u (f x u)) → Kept s (after r f)
+after_kept o s (Done x u) f stands h k = then_kept s u x (f x u) h (k x u (stands_later o s u h.more.0 h.more.1 stands))
+after_kept o s (Exit (Reverts cause) u) f stands h k = record { more = h.more; steps = h.steps; spent = h.spent }
+after_kept o s (Exit RunsOut u) f stands h k = record { more = h.more; steps = h.steps; spent = h.spent }
 
 same_marks : (xs : List Bool) → (more : List Bool) × (xs ≡ xs ++ more)
 same_marks xs = ([], sym (append-nil xs))
@@ -124,16 +124,16 @@ same_marks xs = ([], sym (append-nil xs))
 -- a change of an invocation that is there
 noted_kept : (s : State) (change : Invocation → Invocation) → ((one : Invocation) → (change one).undone ≡ one.undone) → ((one : Invocation) → (change one).own_fuel ≡ one.own_fuel) → (inv : ℕ) → Stands (Some inv) s → Kept s {T = Unit {0}} (note change inv s)
 noted_kept s change mark charge inv h =
-    let keeps : Keeps 0 s.invocations (changed change s.invocations inv) = changed_keeps 0 change mark (λ one. omega (arith, charge one)) s.invocations inv h in
+    let keeps : Keeps 0 s.invocations (with_change change s.invocations inv) = changed_keeps 0 change mark (λ one. omega (arith, charge one)) s.invocations inv h in
     record {
       more = ([], keeps.marks_same ∙ sym (append-nil (marks s.invocations)));
       steps = subst (λ l. StepsStand l s.steps) (sym keeps.marks_same);
       spent = omega (arith, keeps.charges);
     }
 
-paid_kept : (n inv : ℕ) (s : State) (b : Bool) → nat_le n s.fuel ≡ b → Stands (Some inv) s → Kept s {T = Unit {0}} (if b then Gives tt (record s { fuel = s.fuel - n; invocations = changed (charged n) s.invocations inv }) else Halts RunsOut (record s { fuel = 0 }))
+paid_kept : (n inv : ℕ) (s : State) (b : Bool) → nat_le n s.fuel ≡ b → Stands (Some inv) s → Kept s {T = Unit {0}} (if b then Done tt (record s { fuel = s.fuel - n; invocations = with_change (with_charge n) s.invocations inv }) else Exit RunsOut (record s { fuel = 0 }))
 paid_kept n inv s true is h =
-    let keeps : Keeps n s.invocations (changed (charged n) s.invocations inv) = changed_keeps n (charged n) (λ one. refl) (λ one. refl) s.invocations inv h in
+    let keeps : Keeps n s.invocations (with_change (with_charge n) s.invocations inv) = changed_keeps n (with_charge n) (λ one. refl) (λ one. refl) s.invocations inv h in
     let enough : n ≤ s.fuel = grind (arith, nat_tests, is) in
     record {
       more = ([], keeps.marks_same ∙ sym (append-nil (marks s.invocations)));
@@ -169,24 +169,24 @@ begin_kept object method args s = record {
   spent = omega (arith, sum_by_push (λ (i : Invocation). i.own_fuel) s.invocations (record { object = object; method = method; args = args; answer = None; answers = []; own_fuel = 0; undone = false }));
 }
 
-back_marks : (xs us : List Invocation) (more : List Bool) → marks us ≡ marks xs ++ more → marks (take (length xs) us ++ map undone (drop (length xs) us)) ≡ marks xs ++ marks (map undone (drop (length xs) us))
-back_marks xs us more h = map_append (take (length xs) us) (map undone (drop (length xs) us)) ∙ ap (λ l. l ++ marks (map undone (drop (length xs) us))) (take_marks xs us more h)
+back_marks : (xs us : List Invocation) (more : List Bool) → marks us ≡ marks xs ++ more → marks (take (length xs) us ++ map as_undone (drop (length xs) us)) ≡ marks xs ++ marks (map as_undone (drop (length xs) us))
+back_marks xs us more h = map_append (take (length xs) us) (map as_undone (drop (length xs) us)) ∙ ap (λ l. l ++ marks (map as_undone (drop (length xs) us))) (take_marks xs us more h)
 
-back_charged : (n : ℕ) (us : List Invocation) → charged_in (take n us ++ map undone (drop n us)) ≡ charged_in us
-back_charged n us = omega (arith, sum_by-append (λ (i : Invocation). i.own_fuel) (take n us) (map undone (drop n us)), undone_charged (drop n us), sum_by-take-drop (λ (i : Invocation). i.own_fuel) us n)
+back_charged : (n : ℕ) (us : List Invocation) → charged_in (take n us ++ map as_undone (drop n us)) ≡ charged_in us
+back_charged n us = omega (arith, sum_by-append (λ (i : Invocation). i.own_fuel) (take n us) (map as_undone (drop n us)), undone_charged (drop n us), sum_by-take-drop (λ (i : Invocation). i.own_fuel) us n)
 
-caught_kept : (s : State) (r : Reached ℕ) → Kept s r → Kept s (tried (λ _. r) s)
-unfolding tried
-caught_kept s (Gives x u) h = record { more = h.more; steps = h.steps; spent = h.spent }
-caught_kept s (Halts (Reverts cause) u) h = record {
-  more = (marks (map undone (drop (length s.invocations) u.invocations)), back_marks s.invocations u.invocations h.more.0 h.more.1);
-  steps = λ before. stand_later (marks s.invocations) _ (marks (map undone (drop (length s.invocations) u.invocations))) s.steps (back_marks s.invocations u.invocations h.more.0 h.more.1) before;
+caught_kept : (s : State) (r : Control ℕ) → Kept s r → Kept s (attempt_of (λ _. r) s)
+unfolding attempt_of
+caught_kept s (Done x u) h = record { more = h.more; steps = h.steps; spent = h.spent }
+caught_kept s (Exit (Reverts cause) u) h = record {
+  more = (marks (map as_undone (drop (length s.invocations) u.invocations)), back_marks s.invocations u.invocations h.more.0 h.more.1);
+  steps = λ before. stand_later (marks s.invocations) _ (marks (map as_undone (drop (length s.invocations) u.invocations))) s.steps (back_marks s.invocations u.invocations h.more.0 h.more.1) before;
   spent = ap (λ n. u.fuel + n) (back_charged (length s.invocations) u.invocations) ∙ h.spent;
 }
-caught_kept s (Halts RunsOut u) h = record { more = h.more; steps = h.steps; spent = h.spent }
+caught_kept s (Exit RunsOut u) h = record { more = h.more; steps = h.steps; spent = h.spent }
 
-tried_kept : (inv : ℕ) (m n : Running ℕ) → Accounts ℕ None m n → Accounts ℕ (Some inv) (tried m) (tried n)
-unfolding tried
+tried_kept : (inv : ℕ) (m n : Part ℕ) → Accounts ℕ None m n → Accounts ℕ (Some inv) (attempt_of m) (attempt_of n)
+unfolding attempt_of
 tried_kept inv m n h s stands = caught_kept s (m s) (h s tt)
 
 module _ (store : Store) where
@@ -200,8 +200,8 @@ module _ (store : Store) where
     pays = pay_kept;
     reads = read_kept store;
     writes = write_kept;
-    hears = λ inv value s h. noted_kept s (hearing value) (λ one. refl) (λ one. refl) inv h;
-    answers = λ inv value s h. noted_kept s (answering value) (λ one. refl) (λ one. refl) inv h;
+    hears = λ inv value s h. noted_kept s (with_heard value) (λ one. refl) (λ one. refl) inv h;
+    answers = λ inv value s h. noted_kept s (with_answer value) (λ one. refl) (λ one. refl) inv h;
     begins = λ object method args {f = f} h s stands. then_kept s _ (length s.invocations) _ (begin_kept object method args s) (h (length s.invocations) _ (get_new s.invocations _));
     tries = λ inv {m = m} {n = n} h. tried_kept inv m n h;
     widens = λ h s stands. h s tt;

@@ -13,32 +13,32 @@ use Rattle.ecf_lang.specs.declared.typed.TypedBlock.{TypedBlock}
 use Rattle.ecf_lang.specs.declared.tx.TxCall.{TxCall}
 use Rattle.ecf_lang.specs.Fits.{method_at}
 use Rattle.ecf_lang.specs.Store.{Store}
-use Rattle.ecf_lang.specs.Running.{State, Halts, RunsOut, Running, ◌>>=◌, pure, revert, pay, read_cell, write_cell, note, hearing, answering, begin, tried}
+use Rattle.ecf_lang.specs.Part.{State, Exit, RunsOut, Part, ◌>>=◌, pure, revert, pay, read_cell, write_cell, note, with_heard, with_answer, begin, attempt_of}
 use Rattle.ecf_laws.proofs.Frames as frames
-use Rattle.ecf_lang.specs.Meaning.{Opens, Frame, Flow, On, Back, Doing, on, value_of, answer_of, stmt_of, block_of, at_zero, turns, Ways, ways, deeper, invoke, body_of, opens_of, calls_of}
+use Rattle.ecf_lang.specs.Meaning.{Opens, Frame, Flow, Continues, Returns, Action, go_on, value_of, answer_of, stmt_of, block_of, at_zero, turns, Ways, ways, one_deeper, invoke, body_of, opens_of, calls_of}
 
 -- the ways in which parts are made keep the relation: of a part in an invocation, or of one that is in none
-pub record Closed (A B : Store) (R : (T : Type 0) → Option ℕ → Running T → Running T → Type 0) : Type 1 where
+pub record Closed (A B : Store) (R : (T : Type 0) → Option ℕ → Part T → Part T → Type 0) : Type 1 where
   pub pures : {T : Type 0} {o : Option ℕ} (x : T) → R _ o (pure x) (pure x)
   pub reverts : {T : Type 0} {o : Option ℕ} (cause : Cause) → R T o (revert cause) (revert cause)
-  pub ends : {T : Type 0} {o : Option ℕ} → R T o (λ s. Halts RunsOut (record s { fuel = 0 })) (λ s. Halts RunsOut (record s { fuel = 0 }))
-  pub binds : {S T : Type 0} {o : Option ℕ} {m n : Running S} {f g : S → Running T} → R _ o m n → ((x : S) → R _ o (f x) (g x)) → R _ o (m >>= f) (n >>= g)
-  pub looks : {T : Type 0} {o : Option ℕ} {f g : State → Running T} → ((s : State) → R _ o (f s) (g s)) → R _ o (λ s. f s s) (λ s. g s s)
+  pub ends : {T : Type 0} {o : Option ℕ} → R T o (λ s. Exit RunsOut (record s { fuel = 0 })) (λ s. Exit RunsOut (record s { fuel = 0 }))
+  pub binds : {S T : Type 0} {o : Option ℕ} {m n : Part S} {f g : S → Part T} → R _ o m n → ((x : S) → R _ o (f x) (g x)) → R _ o (m >>= f) (n >>= g)
+  pub looks : {T : Type 0} {o : Option ℕ} {f g : State → Part T} → ((s : State) → R _ o (f s) (g s)) → R _ o (λ s. f s s) (λ s. g s s)
   pub pays : (inv n : ℕ) → R _ (Some inv) (pay inv n) (pay inv n)
   pub reads : (inv : ℕ) (cell : Cell) → R _ (Some inv) (read_cell A inv cell) (read_cell B inv cell)
   pub writes : (inv : ℕ) (cell : Cell) (value : ℕ) → R _ (Some inv) (write_cell inv cell value) (write_cell inv cell value)
-  pub hears : (inv value : ℕ) → R _ (Some inv) (note (hearing value) inv) (note (hearing value) inv)
-  pub answers : (inv value : ℕ) → R _ (Some inv) (note (answering value) inv) (note (answering value) inv)
-  pub begins : {T : Type 0} {o : Option ℕ} (object method : ℕ) (args : List ℕ) {f g : ℕ → Running T} → ((inv : ℕ) → R _ (Some inv) (f inv) (g inv)) → R _ o (begin object method args >>= f) (begin object method args >>= g)
-  pub tries : (inv : ℕ) {m n : Running ℕ} → R _ None m n → R _ (Some inv) (tried m) (tried n)
-  pub widens : {T : Type 0} {o : Option ℕ} {m n : Running T} → R _ None m n → R _ o m n
+  pub hears : (inv value : ℕ) → R _ (Some inv) (note (with_heard value) inv) (note (with_heard value) inv)
+  pub answers : (inv value : ℕ) → R _ (Some inv) (note (with_answer value) inv) (note (with_answer value) inv)
+  pub begins : {T : Type 0} {o : Option ℕ} (object method : ℕ) (args : List ℕ) {f g : ℕ → Part T} → ((inv : ℕ) → R _ (Some inv) (f inv) (g inv)) → R _ o (begin object method args >>= f) (begin object method args >>= g)
+  pub tries : (inv : ℕ) {m n : Part ℕ} → R _ None m n → R _ (Some inv) (attempt_of m) (attempt_of n)
+  pub widens : {T : Type 0} {o : Option ℕ} {m n : Part T} → R _ None m n → R _ o m n
 
-module _ (A B : Store) (R : (T : Type 0) → Option ℕ → Running T → Running T → Type 0) (closed : Closed A B R) where
-  if_so : {T : Type 0} {o : Option ℕ} (b : Bool) {k l m n : Running T} → R _ o k l → R _ o m n → R _ o (if b then k else m) (if b then l else n)
+module _ (A B : Store) (R : (T : Type 0) → Option ℕ → Part T → Part T → Type 0) (closed : Closed A B R) where
+  if_so : {T : Type 0} {o : Option ℕ} (b : Bool) {k l m n : Part T} → R _ o k l → R _ o m n → R _ o (if b then k else m) (if b then l else n)
   if_so true h i = h
   if_so false h i = i
 
-  zero_or : {T : Type 0} {o : Option ℕ} (x : ℕ) {k l m n : Running T} → R _ o k l → R _ o m n → R _ o (at_zero x k m) (at_zero x l n)
+  zero_or : {T : Type 0} {o : Option ℕ} (x : ℕ) {k l m n : Part T} → R _ o k l → R _ o m n → R _ o (at_zero x k m) (at_zero x l n)
   zero_or zero h i = h
   zero_or (suc x) h i = i
 
@@ -50,14 +50,14 @@ module _ (A B : Store) (R : (T : Type 0) → Option ℕ → Running T → Runnin
     abbrev frame : Opens → Frame
     frame opens = record { here = here; inv = inv; opens = opens }
 
-    on_alike : (flow : Flow) (d e : Doing) → ((locals : List ℕ) → R _ (Some inv) (d locals) (e locals)) → R _ (Some inv) (on flow d) (on flow e)
-    on_alike (On locals) d e h = h locals
-    on_alike (Back v) d e h = closed.pures (Back v)
+    on_alike : (flow : Flow) (d e : Action) → ((locals : List ℕ) → R _ (Some inv) (d locals) (e locals)) → R _ (Some inv) (go_on flow d) (go_on flow e)
+    on_alike (Continues locals) d e h = h locals
+    on_alike (Returns v) d e h = closed.pures (Returns v)
 
-    turns_alike : (a b : Opens) (cond : TypedExpr) (d e : Doing) → ((locals : List ℕ) → R _ (Some inv) (value_of A (frame a) locals cond) (value_of B (frame b) locals cond)) → ((locals : List ℕ) → R _ (Some inv) (d locals) (e locals)) → (n : ℕ) (locals : List ℕ) → R _ (Some inv) (turns A (frame a) n cond d locals) (turns B (frame b) n cond e locals)
+    turns_alike : (a b : Opens) (cond : TypedExpr) (d e : Action) → ((locals : List ℕ) → R _ (Some inv) (value_of A (frame a) locals cond) (value_of B (frame b) locals cond)) → ((locals : List ℕ) → R _ (Some inv) (d locals) (e locals)) → (n : ℕ) (locals : List ℕ) → R _ (Some inv) (turns A (frame a) n cond d locals) (turns B (frame b) n cond e locals)
     unfolding turns
     turns_alike a b cond d e conds bodies zero locals = closed.ends
-    turns_alike a b cond d e conds bodies (suc n) locals = closed.binds (conds locals) (λ x. zero_or x (closed.pures (On locals)) (closed.binds (closed.pays inv 1) (λ _. closed.binds (bodies locals) (λ flow. on_alike flow _ _ (λ after. turns_alike a b cond d e conds bodies n after)))))
+    turns_alike a b cond d e conds bodies (suc n) locals = closed.binds (conds locals) (λ x. zero_or x (closed.pures (Continues locals)) (closed.binds (closed.pays inv 1) (λ _. closed.binds (bodies locals) (λ flow. on_alike flow _ _ (λ after. turns_alike a b cond d e conds bodies n after)))))
 
     -- the ways in which parts are made in a frame keep the relation
     in_frame : frames.Closed A B here inv inv (λ T. R T (Some inv))
@@ -94,8 +94,8 @@ module _ (A B : Store) (R : (T : Type 0) → Option ℕ → Running T → Runnin
 
   pub opens_alike : (v w : Ways) → WaysAlike v w → (here inv : ℕ) → OpensAlike inv (opens_of v here inv) (opens_of w here inv)
   opens_alike v w h here inv = record {
-    inner = λ name args. h.within here inv name args;
-    outer = λ to name args. closed.binds (closed.widens (h.anew to name args)) (λ x. closed.binds (closed.hears inv x) (λ _. closed.pures x));
+    internal = λ name args. h.within here inv name args;
+    external = λ to name args. closed.binds (closed.widens (h.anew to name args)) (λ x. closed.binds (closed.hears inv x) (λ _. closed.pures x));
     attempt = λ to name args. closed.binds (closed.tries inv (h.anew to name args)) (λ x. closed.binds (closed.hears inv x) (λ _. closed.pures x));
   }
 
@@ -104,7 +104,7 @@ module _ (A B : Store) (R : (T : Type 0) → Option ℕ → Running T → Runnin
     invoke_alike v w h to None name args = closed.reverts NoMethod
     invoke_alike v w h to (Some method) name args = closed.begins to name args (λ inv. closed.binds (body_alike to inv (opens_of v to inv) (opens_of w to inv) (opens_alike v w h to inv) (Some method) args) (λ x. closed.binds (closed.answers inv x) (λ _. closed.pures x)))
 
-    deeper_alike : (v w : Ways) → WaysAlike v w → WaysAlike (deeper typed A v) (deeper typed B w)
+    deeper_alike : (v w : Ways) → WaysAlike v w → WaysAlike (one_deeper typed A v) (one_deeper typed B w)
     deeper_alike v w h = record {
       within = λ here inv name args. body_alike here inv (opens_of v here inv) (opens_of w here inv) (opens_alike v w h here inv) (method_at typed here name) args;
       anew = λ to name args. closed.looks (λ s. if_so (nat_lt (length s.invocations) 1024) (invoke_alike v w h to (method_at typed to name) name args) (closed.reverts Calls));

@@ -7,9 +7,9 @@ use Rattle.ecf_lang.specs.declared.run.Invocation.{Invocation}
 use Rattle.ecf_lang.specs.declared.run.Outcome.TheVariants.{Answer}
 use Rattle.ecf_lang.specs.declared.tx.Tx.{Tx}
 use Rattle.ecf_lang.specs.declared.typed.Typed.{Typed}
-use Rattle.ecf_lang.specs.Store.{Store, Cells, found, read, set}
-use Rattle.ecf_lang.specs.Running.{State, Reached, Gives, Halts, Reverts, RunsOut, Running, after, pay, read_cell, write_cell, tried}
-use Rattle.ecf_lang.specs.Meaning.{run, ran, calls_of, fresh}
+use Rattle.ecf_lang.specs.Store.{Store, Cells, find_cell, read, set}
+use Rattle.ecf_lang.specs.Part.{State, Control, Done, Exit, Reverts, RunsOut, Part, after, pay, read_cell, write_cell, attempt_of}
+use Rattle.ecf_lang.specs.Meaning.{run, result_of, calls_of, initial_state}
 use Rattle.ecf_laws.specs.Parts.{led}
 use Rattle.ecf_laws.specs.Replay.{after_step, after_steps, IsSeen, AreSeen}
 use Rattle.ecf_laws.specs.Laws.{ReadsSeeWrites, WritesAreOfSteps}
@@ -29,14 +29,14 @@ module _ (store : Store) where
     pub written : s.written ≡ after_steps [] s.steps
     pub seen : AreSeen store [] s.steps
 
-  abbrev pub Replays : (T : Type 0) → Option ℕ → Running T → Running T → Type 0
+  abbrev pub Replays : (T : Type 0) → Option ℕ → Part T → Part T → Type 0
   Replays T o m n = (s : State) → Replayed s → Replayed (led (m s))
 
-  after_replayed : {S T : Type 0} (r : Reached S) (f : S → Running T) → Replayed (led r) → ((x : S) (s : State) → Replayed s → Replayed (led (f x s))) → Replayed (led (after r f))
-  after_replayed (Gives x s) f h k = k x s h
-  after_replayed (Halts halt s) f h k = h
+  after_replayed : {S T : Type 0} (r : Control S) (f : S → Part T) → Replayed (led r) → ((x : S) (s : State) → Replayed s → Replayed (led (f x s))) → Replayed (led (after r f))
+  after_replayed (Done x s) f h k = k x s h
+  after_replayed (Exit halt s) f h k = h
 
-  paid_replayed : (n : ℕ) (s : State) (invocations : List Invocation) (b : Bool) → Replayed s → Replayed (led {A = Unit {0}} (if b then Gives tt (record s { fuel = s.fuel - n; invocations = invocations }) else Halts RunsOut (record s { fuel = 0 })))
+  paid_replayed : (n : ℕ) (s : State) (invocations : List Invocation) (b : Bool) → Replayed s → Replayed (led {A = Unit {0}} (if b then Done tt (record s { fuel = s.fuel - n; invocations = invocations }) else Exit RunsOut (record s { fuel = 0 })))
   paid_replayed n s invocations true h = record { written = h.written; seen = h.seen }
   paid_replayed n s invocations false h = record { written = h.written; seen = h.seen }
 
@@ -44,7 +44,7 @@ module _ (store : Store) where
   unfolding read_cell
   read_replayed inv cell s h = record {
     written = h.written ∙ sym (after_push [] s.steps _);
-    seen = seen_push store [] s.steps _ h.seen (λ _. ap (λ l. unwrap_or (found l cell) (read store cell)) h.written);
+    seen = seen_push store [] s.steps _ h.seen (λ _. ap (λ l. unwrap_or (find_cell l cell) (read store cell)) h.written);
   }
 
   write_replayed : (inv : ℕ) (cell : Cell) (value : ℕ) (s : State) → Replayed s → Replayed (led (write_cell inv cell value s))
@@ -54,14 +54,14 @@ module _ (store : Store) where
     seen = seen_push store [] s.steps _ h.seen (λ not_read. absurd (cc));
   }
 
-  caught_replayed : (s : State) (r : Reached ℕ) → Replayed s → Replayed (led r) → Replayed (led (tried (λ _. r) s))
-  unfolding tried
-  caught_replayed s (Gives x t) before h = h
-  caught_replayed s (Halts (Reverts cause) t) before h = record { written = before.written; seen = before.seen }
-  caught_replayed s (Halts RunsOut t) before h = h
+  caught_replayed : (s : State) (r : Control ℕ) → Replayed s → Replayed (led r) → Replayed (led (attempt_of (λ _. r) s))
+  unfolding attempt_of
+  caught_replayed s (Done x t) before h = h
+  caught_replayed s (Exit (Reverts cause) t) before h = record { written = before.written; seen = before.seen }
+  caught_replayed s (Exit RunsOut t) before h = h
 
   closed : parts.Closed store store Replays
-  unfolding pay tried
+  unfolding pay attempt_of
   closed = record {
     pures = λ x s h. h;
     reverts = λ cause s h. h;
@@ -78,22 +78,22 @@ module _ (store : Store) where
     widens = λ h. h;
   }
 
-  pub replayed : (typed : Typed) (tx : Tx) → Replayed (led (calls_of typed store tx.calls (fresh tx.fuel)))
-  replayed typed tx = parts.calls_alike store store Replays closed typed tx.calls (fresh tx.fuel) (record { written = refl; seen = tt })
+  pub replayed : (typed : Typed) (tx : Tx) → Replayed (led (calls_of typed store tx.calls (initial_state tx.fuel)))
+  replayed typed tx = parts.calls_alike store store Replays closed typed tx.calls (initial_state tx.fuel) (record { written = refl; seen = tt })
 
-  seen_of : (limit : ℕ) (r : Reached ℕ) → Replayed (led r) → AreSeen store [] (ran store limit r).steps
-  seen_of limit (Gives x t) h = h.seen
-  seen_of limit (Halts halt t) h = h.seen
+  seen_of : (limit : ℕ) (r : Control ℕ) → Replayed (led r) → AreSeen store [] (result_of store limit r).steps
+  seen_of limit (Done x t) h = h.seen
+  seen_of limit (Exit halt t) h = h.seen
 
-  written_of : (limit : ℕ) (r : Reached ℕ) (value : ℕ) → Replayed (led r) → (ran store limit r).outcome ≡ Answer value → (ran store limit r).writes ≡ after_steps [] (ran store limit r).steps
-  written_of limit (Gives x t) value h is = h.written
-  written_of limit (Halts (Reverts cause) t) value h is = absurd (cc)
-  written_of limit (Halts RunsOut t) value h is = absurd (cc)
+  written_of : (limit : ℕ) (r : Control ℕ) (value : ℕ) → Replayed (led r) → (result_of store limit r).outcome ≡ Answer value → (result_of store limit r).writes ≡ after_steps [] (result_of store limit r).steps
+  written_of limit (Done x t) value h is = h.written
+  written_of limit (Exit (Reverts cause) t) value h is = absurd (cc)
+  written_of limit (Exit RunsOut t) value h is = absurd (cc)
 
 pub reads_see_writes : ReadsSeeWrites
 unfolding run
-reads_see_writes typed store tx = seen_of store tx.fuel (calls_of typed store tx.calls (fresh tx.fuel)) (replayed store typed tx)
+reads_see_writes typed store tx = seen_of store tx.fuel (calls_of typed store tx.calls (initial_state tx.fuel)) (replayed store typed tx)
 
 pub writes_are_of_steps : WritesAreOfSteps
 unfolding run
-writes_are_of_steps typed store tx value is = written_of store tx.fuel (calls_of typed store tx.calls (fresh tx.fuel)) value (replayed store typed tx) is
+writes_are_of_steps typed store tx value is = written_of store tx.fuel (calls_of typed store tx.calls (initial_state tx.fuel)) value (replayed store typed tx) is

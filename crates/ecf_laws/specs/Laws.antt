@@ -13,8 +13,8 @@ use Rattle.ecf_lang.specs.declared.tx.Tx.{Tx}
 use Rattle.ecf_lang.specs.Store.{Store, Cells, IsRising, IsStore, with_writes}
 use Rattle.ecf_lang.specs.Genesis.{genesis}
 use Rattle.ecf_lang.specs.Draft.{AgreesWith, StandsFor}
-use Rattle.ecf_lang.specs.Running.{State}
-use Rattle.ecf_lang.specs.Meaning.{Frame, Doing, value_of, turns, run, recorded}
+use Rattle.ecf_lang.specs.Part.{State}
+use Rattle.ecf_lang.specs.Meaning.{Frame, Action, value_of, turns, run, kept_run}
 use Rattle.ecf_laws.specs.Parts.{NeverRaisesFuel, NoPartRaisesFuel, frame_in, loop_of}
 use Rattle.ecf_laws.specs.Replay.{AreSeen, after_steps}
 
@@ -52,7 +52,7 @@ FuelNeverRises = (typed : Typed) (store : Store) → NoPartRaisesFuel typed stor
 
 -- all numbers of turns above the fuel mean the same loop
 abbrev pub MoreTurnsChangeNothing : Type 0
-MoreTurnsChangeNothing = (store : Store) (frame : Frame) (cond : TypedExpr) (body : Doing) →
+MoreTurnsChangeNothing = (store : Store) (frame : Frame) (cond : TypedExpr) (body : Action) →
     ((locals : List ℕ) → NeverRaisesFuel (value_of store frame locals cond)) →
     ((locals : List ℕ) → NeverRaisesFuel (body locals)) →
     (m n : ℕ) (locals : List ℕ) (state : State) → state.fuel < m → state.fuel < n →
@@ -90,11 +90,11 @@ GenesisIsStore = (typed : Typed) → IsStore (genesis typed)
 
 -- a run, kept, stands for the run of its transaction on every store that agrees with its reads
 abbrev pub RunStands : Type 0
-RunStands = (typed : Typed) (store : Store) (tx : Tx) → StandsFor typed tx (recorded (run typed store tx))
+RunStands = (typed : Typed) (store : Store) (tx : Tx) → StandsFor typed tx (kept_run (run typed store tx))
 
 -- two stores that agree on what a run reads give the same run
 abbrev pub SameReadsSameRun : Type 0
-SameReadsSameRun = (typed : Typed) (store other : Store) (tx : Tx) → AgreesWith (run typed store tx).reads other → recorded (run typed other tx) ≡ recorded (run typed store tx)
+SameReadsSameRun = (typed : Typed) (store other : Store) (tx : Tx) → AgreesWith (run typed store tx).reads other → kept_run (run typed other tx) ≡ kept_run (run typed store tx)
 
 -- each read step of a run has the number of the last write step before it on its cell, else the store's
 abbrev pub ReadsSeeWrites : Type 0

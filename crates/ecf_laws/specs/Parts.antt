@@ -7,16 +7,16 @@ use Rattle.ecf_lang.specs.declared.typed.TypedStmt.{TypedStmt}
 use Rattle.ecf_lang.specs.declared.typed.TypedBlock.{TypedBlock}
 use Rattle.ecf_lang.specs.declared.tx.TxCall.{TxCall}
 use Rattle.ecf_lang.specs.Store.{Store}
-use Rattle.ecf_lang.specs.Running.{State, Reached, Gives, Halts, Running}
-use Rattle.ecf_lang.specs.Meaning.{Frame, Doing, turns, frame_of, ways, value_of, answer_of, stmt_of, block_of, calls_of}
+use Rattle.ecf_lang.specs.Part.{State, Control, Done, Exit, Part}
+use Rattle.ecf_lang.specs.Meaning.{Frame, Action, turns, frame_of, ways, value_of, answer_of, stmt_of, block_of, calls_of}
 
 -- what the run has where a part led
-abbrev pub led : {A : Type 0} → Reached A → State
-led (Gives value state) = state
-led (Halts halt state) = state
+abbrev pub led : {A : Type 0} → Control A → State
+led (Done value state) = state
+led (Exit halt state) = state
 
 -- a part leaves no more fuel than it found
-abbrev pub NeverRaisesFuel : {A : Type 0} → Running A → Type 0
+abbrev pub NeverRaisesFuel : {A : Type 0} → Part A → Type 0
 NeverRaisesFuel part = (state : State) → (led (part state)).fuel ≤ state.fuel
 
 -- the frame of an object and an invocation, where so many more frames may be open
@@ -24,7 +24,7 @@ abbrev pub frame_in : Typed → Store → ℕ → ℕ → ℕ → Frame
 frame_in typed store room here inv = frame_of typed store (ways typed store room) here inv
 
 -- a loop of at most so many turns, in a frame
-abbrev pub loop_of : Store → Frame → ℕ → TypedExpr → TypedBlock → Doing
+abbrev pub loop_of : Store → Frame → ℕ → TypedExpr → TypedBlock → Action
 loop_of store frame n cond body = turns store frame n cond (block_of store frame body)
 
 -- no part of any run of the contract raises the fuel

@@ -1,7 +1,7 @@
 -- Steps, gone through again one after the other.
 use Rattle.std.specs.Prelude.{⊤, ◌≡◌, false, if◌then◌else◌, unwrap_or, List, [], ◌∷◌}
 use Rattle.ecf_lang.specs.declared.run.Step.{Step}
-use Rattle.ecf_lang.specs.Store.{Store, Cells, found, read, set}
+use Rattle.ecf_lang.specs.Store.{Store, Cells, find_cell, read, set}
 
 -- the written cells after one more step
 abbrev pub after_step : Cells → Step → Cells
@@ -14,7 +14,7 @@ after_steps written (step ∷ steps) = after_steps (after_step written step) ste
 
 -- a read has the number that was written last, else the store's
 abbrev pub IsSeen : Store → Cells → Step → Type 0
-IsSeen store written step = step.write ≡ false → step.value ≡ unwrap_or (found written step.cell) (read store step.cell)
+IsSeen store written step = step.write ≡ false → step.value ≡ unwrap_or (find_cell written step.cell) (read store step.cell)
 
 -- each read among the steps, the first of which finds these cells written
 abbrev pub AreSeen : Store → Cells → List Step → Type 0

@@ -10,7 +10,7 @@ use Rattle.ecf_lang.specs.declared.run.Invocation.{Invocation}
 use Rattle.ecf_lang.specs.declared.typed.Typed.{Typed}
 use Rattle.ecf_lang.specs.Fits.{method_at}
 use Rattle.ecf_lang.specs.Store.{Store}
-use Rattle.ecf_lang.specs.Running.{State, Reached, Gives, Halts, Reverts, RunsOut, Running, after, ◌>>=◌, pure, revert, tried, undone}
+use Rattle.ecf_lang.specs.Part.{State, Control, Done, Exit, Reverts, RunsOut, Part, after, ◌>>=◌, pure, revert, attempt_of, as_undone}
 use Rattle.ecf_lang.specs.Alone.{of_invocation}
 use Rattle.ecf_laws.specs.Parts.{led}
 use Rattle.ecf_laws.specs.Replay.{after_steps, AreSeen}
@@ -68,13 +68,13 @@ module _ (typed : Typed) where
     pub does : (fields : Store) → AreSeen fields [] steps → DoesAlone typed inv one steps fields
 
   -- each invocation that is there since, and wasn't undone, plays
-  abbrev pub AllPlay : {T : Type 0} → State → Reached T → Type 0
-  AllPlay s (Gives x t) = (k : ℕ) → length s.invocations ≤ k → (one : Invocation) → slice_get t.invocations k ≡ Some one → one.undone ≡ false → Plays k one (block t.steps k)
-  AllPlay s (Halts halt t) = Unit {0}
+  abbrev pub AllPlay : {T : Type 0} → State → Control T → Type 0
+  AllPlay s (Done x t) = (k : ℕ) → length s.invocations ≤ k → (one : Invocation) → slice_get t.invocations k ≡ Some one → one.undone ≡ false → Plays k one (block t.steps k)
+  AllPlay s (Exit halt t) = Unit {0}
 
-  pub play_then : {S T : Type 0} (o : Option ℕ) (s u : State) (x : S) (r : Reached T) → Within o s → AllPlay s (Gives x u) → Keeps o u (led r) → AllPlay u r → AllPlay s r
-  play_then o s u x (Halts halt t) within first keeps last = tt
-  play_then o s u x (Gives y t) within first keeps last = λ k new one is stands. elim (cases_lt k (length u.invocations)) [
+  pub play_then : {S T : Type 0} (o : Option ℕ) (s u : State) (x : S) (r : Control T) → Within o s → AllPlay s (Done x u) → Keeps o u (led r) → AllPlay u r → AllPlay s r
+  play_then o s u x (Exit halt t) within first keeps last = tt
+  play_then o s u x (Done y t) within first keeps last = λ k new one is stands. elim (cases_lt k (length u.invocations)) [
     | inl below ↦
         let apart : (o ≡ Some k → ⊥) = new_apart o s k within new in
         subst (Plays k one) (sym (keeps.blocks k below apart)) (first k new one (sym (keeps.others k below apart) ∙ is) stands)
@@ -82,7 +82,7 @@ module _ (typed : Typed) where
   ]
 
   -- where no invocation came since, there is nothing to play
-  pub none_play : {T : Type 0} (s t : State) (x : T) → length t.invocations ≤ length s.invocations → AllPlay s (Gives x t)
+  pub none_play : {T : Type 0} (s t : State) (x : T) → length t.invocations ≤ length s.invocations → AllPlay s (Done x t)
   none_play s t x short k new one is stands = absurd (absent t.invocations k (omega (arith, short, new)) is)
     where
       absent : (xs : List Invocation) (n : ℕ) → length xs ≤ n → slice_get xs n ≡ Some one → ⊥
@@ -91,25 +91,25 @@ module _ (typed : Typed) where
       absent (y ∷ ys) (suc n) h e = absent ys n (omega (arith, h)) e
 
   -- a part that is in no invocation
-  abbrev pub Anew : Running ℕ → Type 0
+  abbrev pub Anew : Part ℕ → Type 0
   Anew part = (s : State) → Empty s → Keeps None s (led (part s)) × AllPlay s (part s)
 
-  caught_anew : (s : State) (r : Reached ℕ) → Empty s → Keeps None s (led r) → AllPlay s r → Keeps None s (led (tried (λ _. r) s)) × AllPlay s (tried (λ _. r) s)
-  unfolding tried
-  caught_anew s (Gives x t) e h k = (h, k)
-  caught_anew s (Halts (Reverts cause) t) e h k = (
+  caught_anew : (s : State) (r : Control ℕ) → Empty s → Keeps None s (led r) → AllPlay s r → Keeps None s (led (attempt_of (λ _. r) s)) × AllPlay s (attempt_of (λ _. r) s)
+  unfolding attempt_of
+  caught_anew s (Done x t) e h k = (h, k)
+  caught_anew s (Exit (Reverts cause) t) e h k = (
     record {
       longer = omega (arith, h.longer, back_long (length s.invocations) t.invocations h.longer);
-      others = λ n below apart. get_taken (length s.invocations) t.invocations (map undone (drop (length s.invocations) t.invocations)) n below h.longer ∙ h.others n below apart;
+      others = λ n below apart. get_taken (length s.invocations) t.invocations (map as_undone (drop (length s.invocations) t.invocations)) n below h.longer ∙ h.others n below apart;
       blocks = λ n below apart. refl;
       empty = λ _ n new. e n (omega (arith, new, h.longer, back_long (length s.invocations) t.invocations h.longer));
     },
     λ n new one is stands. absurd (let gone : one.undone ≡ true = back_undone (length s.invocations) t.invocations n one new h.longer is in cc),
   )
-  caught_anew s (Halts RunsOut t) e h k = (h, tt)
+  caught_anew s (Exit RunsOut t) e h k = (h, tt)
 
-  pub tried_anew : (part : Running ℕ) → Anew part → Anew (tried part)
-  unfolding tried
+  pub tried_anew : (part : Part ℕ) → Anew part → Anew (attempt_of part)
+  unfolding attempt_of
   tried_anew part h s e = let r = h s e in caught_anew s (part s) e r.0 r.1
 
   -- an invocation with more answers and more charged
@@ -158,24 +158,24 @@ module _ (typed : Typed) where
       pub next : recorded ≡ before ++ (answers ++ later)
 
     -- where the part gave this value in the run, the part alone gives it wherever it is ready for what was added
-    pub record Echoed (s t : State) {T : Type 0} (x : T) (n : Running T) : Type 0 where
+    pub record Echoed (s t : State) {T : Type 0} (x : T) (n : Part T) : Type 0 where
       pub steps : List Step
       pub answers : List ℕ
       pub charge : ℕ
       pub grows : Grows s t steps answers charge
-      pub lone : (l : State) → Ready l steps answers charge → (e : State) × (n l ≡ Gives x e) × Follows l e steps answers charge
+      pub lone : (l : State) → Ready l steps answers charge → (e : State) × (n l ≡ Done x e) × Follows l e steps answers charge
 
-    abbrev pub Echo : {T : Type 0} → State → Reached T → Running T → Type 0
-    Echo s (Gives x t) n = Echoed s t x n
-    Echo s (Halts halt t) n = Unit {0}
+    abbrev pub Echo : {T : Type 0} → State → Control T → Part T → Type 0
+    Echo s (Done x t) n = Echoed s t x n
+    Echo s (Exit halt t) n = Unit {0}
 
     -- a part in the invocation
-    pub record Goes (s : State) {T : Type 0} (r : Reached T) (n : Running T) : Type 0 where
+    pub record Goes (s : State) {T : Type 0} (r : Control T) (n : Part T) : Type 0 where
       pub keeps : Keeps (Some i) s (led r)
       pub plays : AllPlay s r
       pub echo : Echo s r n
 
-    abbrev pub Alike : (T : Type 0) → Running T → Running T → Type 0
+    abbrev pub Alike : (T : Type 0) → Part T → Part T → Type 0
     Alike T m n = (s : State) → i < length s.invocations → Empty s → Goes s (m s) n
 
     each_append : (P : Step → Type 0) (xs ys : List Step) → Each P xs → Each P ys → Each P (xs ++ ys)
@@ -212,9 +212,9 @@ module _ (typed : Typed) where
       next = r.next ∙ ap (λ m. r.before ++ m) (append_assoc hs bs r.later) ∙ sym (append_assoc r.before hs (bs ++ r.later));
     }
 
-    echo_then : {S T : Type 0} (s u : State) (x : S) (r : Reached T) (n : Running S) (g : S → Running T) → Echoed s u x n → Echo u r (g x) → Echo s r (n >>= g)
-    echo_then s u x (Halts halt t) n g h k = tt
-    echo_then s u x (Gives y t) n g h k = record {
+    echo_then : {S T : Type 0} (s u : State) (x : S) (r : Control T) (n : Part S) (g : S → Part T) → Echoed s u x n → Echo u r (g x) → Echo s r (n >>= g)
+    echo_then s u x (Exit halt t) n g h k = tt
+    echo_then s u x (Done y t) n g h k = record {
       steps = h.steps ++ k.steps;
       answers = h.answers ++ k.answers;
       charge = h.charge + k.charge;
@@ -228,15 +228,15 @@ module _ (typed : Typed) where
     pub within_later : (s u : State) → Keeps (Some i) s u → i < length s.invocations → i < length u.invocations
     within_later s u h w = omega (arith, h.longer, w)
 
-    pub after_goes : {S T : Type 0} (s : State) (r : Reached S) (n : Running S) (f g : S → Running T) → i < length s.invocations → Empty s → Goes s r n → ((x : S) → Alike T (f x) (g x)) → Goes s (after r f) (n >>= g)
-    after_goes s (Gives x u) n f g w e h k =
+    pub after_goes : {S T : Type 0} (s : State) (r : Control S) (n : Part S) (f g : S → Part T) → i < length s.invocations → Empty s → Goes s r n → ((x : S) → Alike T (f x) (g x)) → Goes s (after r f) (n >>= g)
+    after_goes s (Done x u) n f g w e h k =
         let next : Goes u (f x u) (g x) = k x u (within_later s u h.keeps w) (h.keeps.empty e) in
         record {
           keeps = keeps_then (Some i) s u (led (f x u)) h.keeps next.keeps;
           plays = play_then (Some i) s u x (f x u) w h.plays next.keeps next.plays;
           echo = echo_then s u x (f x u) n g h.echo next.echo;
         }
-    after_goes s (Halts halt u) n f g w e h k = record { keeps = h.keeps; plays = tt; echo = tt }
+    after_goes s (Exit halt u) n f g w e h k = record { keeps = h.keeps; plays = tt; echo = tt }
 
     -- a part that adds nothing
     grows_none : (s t : State) → slice_get t.invocations i ≡ slice_get s.invocations i → block t.steps i ≡ block s.steps i → Grows s t [] [] 0

@@ -7,7 +7,7 @@ use Rattle.std.proofs.lemmas.List.Elements.{filter-append}
 use Rattle.ecf_lang.specs.declared.run.Step.{Step}
 use Rattle.ecf_lang.specs.declared.run.Invocation.{Invocation}
 use Rattle.ecf_lang.specs.Store.{Store, Cells}
-use Rattle.ecf_lang.specs.Running.{changed, undone}
+use Rattle.ecf_lang.specs.Part.{with_change, as_undone}
 use Rattle.ecf_laws.specs.Replay.{after_step, after_steps, AreSeen}
 use Rattle.ecf_removed.specs.Held.{block}
 
@@ -49,17 +49,17 @@ set_long [] n y = refl
 set_long (z ∷ xs) zero y = refl
 set_long (z ∷ xs) (suc n) y = ap suc (set_long xs n y)
 
-pub changed_same : (change : Invocation → Invocation) (xs : List Invocation) (n : ℕ) (x : Invocation) → slice_get xs n ≡ Some x → slice_get (changed change xs n) n ≡ Some (change x)
+pub changed_same : (change : Invocation → Invocation) (xs : List Invocation) (n : ℕ) (x : Invocation) → slice_get xs n ≡ Some x → slice_get (with_change change xs n) n ≡ Some (change x)
 changed_same change xs n x h = subst (λ o. slice_get (option_map_or (λ one. slice_set xs n (change one)) o xs) n ≡ Some (change x)) (sym h) (set_same xs n x (change x) h)
 
-pub changed_other : (change : Invocation → Invocation) (xs : List Invocation) (n k : ℕ) → (n ≡ k → ⊥) → slice_get (changed change xs n) k ≡ slice_get xs k
+pub changed_other : (change : Invocation → Invocation) (xs : List Invocation) (n k : ℕ) → (n ≡ k → ⊥) → slice_get (with_change change xs n) k ≡ slice_get xs k
 changed_other change xs n k h = by (slice_get xs n)
   where
     by : (o : Option Invocation) → slice_get (option_map_or (λ one. slice_set xs n (change one)) o xs) k ≡ slice_get xs k
     by None = refl
     by (Some x) = set_other xs n k (change x) h
 
-pub changed_long : (change : Invocation → Invocation) (xs : List Invocation) (n : ℕ) → length (changed change xs n) ≡ length xs
+pub changed_long : (change : Invocation → Invocation) (xs : List Invocation) (n : ℕ) → length (with_change change xs n) ≡ length xs
 changed_long change xs n = by (slice_get xs n)
   where
     by : (o : Option Invocation) → length (option_map_or (λ one. slice_set xs n (change one)) o xs) ≡ length xs
@@ -67,21 +67,21 @@ changed_long change xs n = by (slice_get xs n)
     by (Some x) = set_long xs n (change x)
 
 -- what an undoing leaves has been undone
-undone_at : (xs : List Invocation) (n : ℕ) (x : Invocation) → slice_get (map undone xs) n ≡ Some x → x.undone ≡ true
+undone_at : (xs : List Invocation) (n : ℕ) (x : Invocation) → slice_get (map as_undone xs) n ≡ Some x → x.undone ≡ true
 undone_at [] n x h = absurd (cc)
 undone_at (y ∷ xs) zero x h = ap (λ (o : Option Invocation). option_map_or (λ z. z.undone) o true) (sym h)
 undone_at (y ∷ xs) (suc n) x h = undone_at xs n x h
 
-pub back_undone : (m : ℕ) (xs : List Invocation) (n : ℕ) (x : Invocation) → m ≤ n → m ≤ length xs → slice_get (take m xs ++ map undone (drop m xs)) n ≡ Some x → x.undone ≡ true
+pub back_undone : (m : ℕ) (xs : List Invocation) (n : ℕ) (x : Invocation) → m ≤ n → m ≤ length xs → slice_get (take m xs ++ map as_undone (drop m xs)) n ≡ Some x → x.undone ≡ true
 back_undone zero xs n x h k e = undone_at xs n x e
 back_undone (suc m) [] n x h k e = absurd (omega arith)
 back_undone (suc m) (y ∷ xs) zero x h k e = absurd (omega arith)
 back_undone (suc m) (y ∷ xs) (suc n) x h k e = back_undone m xs n x (omega arith) (omega arith) e
 
-pub back_long : (m : ℕ) (xs : List Invocation) → m ≤ length xs → length (take m xs ++ map undone (drop m xs)) ≡ length xs
+pub back_long : (m : ℕ) (xs : List Invocation) → m ≤ length xs → length (take m xs ++ map as_undone (drop m xs)) ≡ length xs
 back_long zero xs h = by xs
   where
-    by : (ys : List Invocation) → length (map undone ys) ≡ length ys
+    by : (ys : List Invocation) → length (map as_undone ys) ≡ length ys
     by [] = refl
     by (y ∷ ys) = ap suc (by ys)
 back_long (suc m) [] h = absurd (omega arith)

@@ -13,8 +13,8 @@ use Rattle.ecf_lang.specs.declared.tx.Tx.{Tx}
 use Rattle.ecf_lang.specs.declared.tx.TxCall.{TxCall}
 use Rattle.ecf_lang.specs.Fits.{method_at}
 use Rattle.ecf_lang.specs.Store.{Store, Cells, with_writes}
-use Rattle.ecf_lang.specs.Running.{State, Reached, Gives, Halts, Reverts, RunsOut, Running, after, ◌>>◌, pure, revert, note, changed, answering, tried}
-use Rattle.ecf_lang.specs.Meaning.{Ways, opens_of, frame_of, body_of, invoke, tested, ways, calls_of, fresh, ran, run}
+use Rattle.ecf_lang.specs.Part.{State, Control, Done, Exit, Reverts, RunsOut, Part, after, ◌>>◌, pure, revert, note, with_change, with_answer, attempt_of}
+use Rattle.ecf_lang.specs.Meaning.{Ways, opens_of, frame_of, body_of, invoke, checked_call, ways, calls_of, initial_state, result_of, run}
 use Rattle.ecf_lang.specs.Alone.{of_invocation, lone_frame, inside, by_itself, lone_of, alone}
 use Rattle.ecf_laws.specs.Parts.{led}
 use Rattle.ecf_laws.specs.Replay.{after_steps, AreSeen}
@@ -42,11 +42,11 @@ module _ (typed : Typed) where
   unfolding inside
   inside_more fields one room name args = refl
 
-  alone_is : (inv : ℕ) (one : Invocation) (fields : Store) (v : ℕ) (e : State) (written : Cells) (steps : List Step) → by_itself typed fields one (fresh one.own_fuel) ≡ Gives v e → e.written ≡ written → map (of_invocation inv) e.steps ≡ steps →
+  alone_is : (inv : ℕ) (one : Invocation) (fields : Store) (v : ℕ) (e : State) (written : Cells) (steps : List Step) → by_itself typed fields one (initial_state one.own_fuel) ≡ Done v e → e.written ≡ written → map (of_invocation inv) e.steps ≡ steps →
       alone typed inv one fields ≡ record { outcome = Answer v; steps = steps; writes = written; fields = with_writes fields written }
   unfolding alone
   alone_is inv one fields v e written steps gives is are =
-      ap (λ r. lone_of inv (ran fields one.own_fuel r)) gives ∙ (λ i. record { outcome = Answer v; steps = are i; writes = is i; fields = with_writes fields (is i) })
+      ap (λ r. lone_of inv (result_of fields one.own_fuel r)) gives ∙ (λ i. record { outcome = Answer v; steps = are i; writes = is i; fields = with_writes fields (is i) })
 
   module _ (store : Store) where
     -- methods entered while so many more frames may be open, and the same in a run alone that may open no fewer
@@ -56,9 +56,9 @@ module _ (typed : Typed) where
 
     opens_go : (room : ℕ) (v : Ways) → WaysGo room v → (fields : Store) (one : Invocation) (i more : ℕ) → room ≤ more → frames.OpensAlike (echo.Alike typed fields one.answers one.object i) (opens_of v one.object i) (lone_frame typed fields one (inside typed fields one more)).opens
     opens_go room v h fields one i more enough = record {
-      inner = λ name args. h.within fields one i more enough name args;
-      outer = λ to name args. single.call_goes typed fields one.answers one.object i (v.anew to name args) (h.anew to name args);
-      attempt = λ to name args. single.call_goes typed fields one.answers one.object i (tried (v.anew to name args)) (echo.tried_anew typed (v.anew to name args) (h.anew to name args));
+      internal = λ name args. h.within fields one i more enough name args;
+      external = λ to name args. single.call_goes typed fields one.answers one.object i (v.anew to name args) (h.anew to name args);
+      attempt = λ to name args. single.call_goes typed fields one.answers one.object i (attempt_of (v.anew to name args)) (echo.tried_anew typed (v.anew to name args) (h.anew to name args));
     }
 
     body_goes : (room : ℕ) (v : Ways) → WaysGo room v → (fields : Store) (one : Invocation) (i more : ℕ) → room ≤ more → (method : Option TypedMethod) (args : List ℕ) → echo.Alike typed fields one.answers one.object i ℕ (body_of store (frame_of typed store v one.object i) method args) (body_of fields (lone_frame typed fields one (inside typed fields one more)) method args)
@@ -94,12 +94,12 @@ module _ (typed : Typed) where
         not_new : (k : ℕ) → k < length s.invocations → Some (length s.invocations) ≡ Some k → ⊥
         not_new k below e = omega (arith, below, some_is e)
 
-    keeps_answered : (s u : State) (v : ℕ) → echo.Keeps None s u → echo.Keeps None s (record u { invocations = changed (answering v) u.invocations (length s.invocations) })
+    keeps_answered : (s u : State) (v : ℕ) → echo.Keeps None s u → echo.Keeps None s (record u { invocations = with_change (with_answer v) u.invocations (length s.invocations) })
     keeps_answered s u v h = record {
-      longer = omega (arith, h.longer, changed_long (answering v) u.invocations (length s.invocations));
-      others = λ k below apart. changed_other (answering v) u.invocations (length s.invocations) k (λ e. omega (arith, below, e)) ∙ h.others k below apart;
+      longer = omega (arith, h.longer, changed_long (with_answer v) u.invocations (length s.invocations));
+      others = λ k below apart. changed_other (with_answer v) u.invocations (length s.invocations) k (λ e. omega (arith, below, e)) ∙ h.others k below apart;
       blocks = λ k below apart. h.blocks k below apart;
-      empty = λ e k new. h.empty e k (omega (arith, new, changed_long (answering v) u.invocations (length s.invocations)));
+      empty = λ e k new. h.empty e k (omega (arith, new, changed_long (with_answer v) u.invocations (length s.invocations)));
     }
 
     -- an invocation that answered plays
@@ -110,7 +110,7 @@ module _ (typed : Typed) where
       abbrev start : State
       start = with_opened s (opened to name args)
 
-      abbrev body : Reached ℕ
+      abbrev body : Control ℕ
       body = body_of store (frame_of typed store v to inv) (Some method) args start
 
       abbrev recorded : ℕ → List ℕ → ℕ → Invocation
@@ -119,7 +119,7 @@ module _ (typed : Typed) where
       goes : (fields : Store) (x : ℕ) (answers : List ℕ) (charge : ℕ) → echo.Goes typed fields answers to inv start body (body_of fields (lone_frame typed fields (recorded x answers charge) (inside typed fields (recorded x answers charge) 63)) (Some method) args)
       goes fields x answers charge = body_goes room v h fields (recorded x answers charge) inv 63 few (Some method) args start (omega (arith, opened_long s (opened to name args))) ((keeps_opened s (opened to name args)).empty empty)
 
-      module _ (x : ℕ) (u : State) (is : body ≡ Gives x u) where
+      module _ (x : ℕ) (u : State) (is : body ≡ Done x u) where
         -- what the body added, as some run alone says it
         added : (fields : Store) (answers : List ℕ) (charge : ℕ) → echo.Echoed typed fields answers to inv start u x (body_of fields (lone_frame typed fields (recorded x answers charge) (inside typed fields (recorded x answers charge) 63)) (Some method) args)
         added fields answers charge = subst (λ r. echo.Echo typed fields answers to inv start r (body_of fields (lone_frame typed fields (recorded x answers charge) (inside typed fields (recorded x answers charge) 63)) (Some method) args)) is (goes fields x answers charge).echo
@@ -142,15 +142,15 @@ module _ (typed : Typed) where
             let new : slice_get start.invocations inv ≡ Some (opened to name args) = get_new s.invocations (opened to name args) in
             some_is (sym ((added fields answers charge).grows.one_grown (opened to name args) new) ∙ first.grows.one_grown (opened to name args) new)
 
-        abbrev lone : Store → Running ℕ
+        abbrev lone : Store → Part ℕ
         lone fields = body_of fields (lone_frame typed fields one (inside typed fields one 63)) (Some method) args
 
         -- the run alone as its body begins
         abbrev lone_start : State
-        lone_start = with_opened (fresh one.own_fuel) (opened to name args)
+        lone_start = with_opened (initial_state one.own_fuel) (opened to name args)
 
-        whole_lone : (fields : Store) → by_itself typed fields one (fresh one.own_fuel) ≡ lone fields lone_start
-        whole_lone fields = ap (λ (m : Running ℕ). m lone_start) (inside_more fields one 63 name args ∙ ap (λ o. body_of fields (lone_frame typed fields one (inside typed fields one 63)) o args) there)
+        whole_lone : (fields : Store) → by_itself typed fields one (initial_state one.own_fuel) ≡ lone fields lone_start
+        whole_lone fields = ap (λ (m : Part ℕ). m lone_start) (inside_more fields one 63 name args ∙ ap (λ o. body_of fields (lone_frame typed fields one (inside typed fields one 63)) o args) there)
 
         ready : (fields : Store) → AreSeen fields [] (block u.steps inv) → echo.Ready typed fields first.answers to inv lone_start (added fields first.answers first.charge).steps (added fields first.answers first.charge).answers (added fields first.answers first.charge).charge
         ready fields seen =
@@ -183,27 +183,27 @@ module _ (typed : Typed) where
         plays_one = record { has_method = subst IsSome (sym there) refl; own = subst (Each (λ step. step.cell.object ≡ to)) (same_steps store [] 0) first.grows.own; does = does }
 
         -- the invocation as it stands at its end
-        at_end : slice_get (changed (answering x) u.invocations inv) inv ≡ Some one
-        at_end = changed_same (answering x) u.invocations inv (echo.grown typed first.answers first.charge (opened to name args)) (first.grows.one_grown (opened to name args) (get_new s.invocations (opened to name args))) ∙ (λ j. Some (record { object = to; method = name; args = args; answer = Some x; answers = first.answers; own_fuel = none first.charge j; undone = false }))
+        at_end : slice_get (with_change (with_answer x) u.invocations inv) inv ≡ Some one
+        at_end = changed_same (with_answer x) u.invocations inv (echo.grown typed first.answers first.charge (opened to name args)) (first.grows.one_grown (opened to name args) (get_new s.invocations (opened to name args))) ∙ (λ j. Some (record { object = to; method = name; args = args; answer = Some x; answers = first.answers; own_fuel = none first.charge j; undone = false }))
           where
             none : (n : ℕ) → 0 + n ≡ n
             none n = omega arith
 
-      answer : ℕ → Running ℕ
-      answer x = note (answering x) inv >> pure x
+      answer : ℕ → Part ℕ
+      answer x = note (with_answer x) inv >> pure x
 
       -- what of it all is kept and played, from where the body led
-      opened_goes : (r : Reached ℕ) → body ≡ r → echo.Keeps None s (led (after r (λ x. note (answering x) inv >> pure x))) × echo.AllPlay typed s (after r (λ x. note (answering x) inv >> pure x))
-      opened_goes (Halts halt u) is = (keeps_outside s u (opened to name args) (subst (λ r. echo.Keeps (Some inv) start (led r)) is (goes store 0 [] 0).keeps), tt)
-      opened_goes (Gives x u) is =
+      opened_goes : (r : Control ℕ) → body ≡ r → echo.Keeps None s (led (after r (λ x. note (with_answer x) inv >> pure x))) × echo.AllPlay typed s (after r (λ x. note (with_answer x) inv >> pure x))
+      opened_goes (Exit halt u) is = (keeps_outside s u (opened to name args) (subst (λ r. echo.Keeps (Some inv) start (led r)) is (goes store 0 [] 0).keeps), tt)
+      opened_goes (Done x u) is =
           let kept : echo.Keeps (Some inv) start u = subst (λ r. echo.Keeps (Some inv) start (led r)) is (goes store 0 [] 0).keeps in
-          let later : echo.AllPlay typed start (Gives x u) = subst (echo.AllPlay typed start) is (goes store 0 [] 0).plays in (
+          let later : echo.AllPlay typed start (Done x u) = subst (echo.AllPlay typed start) is (goes store 0 [] 0).plays in (
             keeps_answered s u x (keeps_outside s u (opened to name args) kept),
             λ k new other at stands. elim (cases_lt inv k) [
-              | inl above ↦ later k (omega (arith, above, opened_long s (opened to name args))) other (sym (changed_other (answering x) u.invocations inv k (λ e. omega (arith, above, e))) ∙ at) stands
+              | inl above ↦ later k (omega (arith, above, opened_long s (opened to name args))) other (sym (changed_other (with_answer x) u.invocations inv k (λ e. omega (arith, above, e))) ∙ at) stands
               | inr least ↦
                   let same : k ≡ inv = omega (arith, new, least) in
-                  let this : one x u is ≡ other = some_is (sym (at_end x u is) ∙ ap (λ n. slice_get (changed (answering x) u.invocations inv) n) (sym same) ∙ at) in
+                  let this : one x u is ≡ other = some_is (sym (at_end x u is) ∙ ap (λ n. slice_get (with_change (with_answer x) u.invocations inv) n) (sym same) ∙ at) in
                   subst (λ n. echo.Plays typed n other (block u.steps n)) (sym same) (subst (λ o. echo.Plays typed inv o (block u.steps inv)) this (plays_one x u is))
             ],
           )
@@ -212,10 +212,10 @@ module _ (typed : Typed) where
     invoke_anew room v h few to name args None there = λ s e. (echo.keeps_same None s, tt)
     invoke_anew room v h few to name args (Some method) there = λ s e. opened_goes room v h few to name args method there s e (body room v h few to name args method there s e) refl
 
-    tested_anew : (room : ℕ) (v : Ways) → WaysGo room v → room ≤ 63 → (to name : ℕ) (args : List ℕ) → echo.Anew typed (tested typed store v to name args)
+    tested_anew : (room : ℕ) (v : Ways) → WaysGo room v → room ≤ 63 → (to name : ℕ) (args : List ℕ) → echo.Anew typed (checked_call typed store v to name args)
     tested_anew room v h few to name args s e = by (nat_lt (length s.invocations) 1024) (invoke_anew room v h few to name args (method_at typed to name) refl s e)
       where
-        Goes : Reached ℕ → Type 0
+        Goes : Control ℕ → Type 0
         Goes r = echo.Keeps None s (led r) × echo.AllPlay typed s r
 
         by : (b : Bool) → Goes (invoke typed store v to (method_at typed to name) name args s) → Goes ((if b then invoke typed store v to (method_at typed to name) name args else revert Calls) s)
@@ -230,7 +230,7 @@ module _ (typed : Typed) where
     unfolding ways
     ways_go zero few = record { within = λ fields one i more enough name args s w e. halted fields one i more name args s; anew = λ to name args s e. (echo.keeps_same None s, tt) }
       where
-        halted : (fields : Store) (one : Invocation) (i more name : ℕ) (args : List ℕ) (s : State) → echo.Goes typed fields one.answers one.object i s (Halts (Reverts Depth) s) (inside typed fields one more name args)
+        halted : (fields : Store) (one : Invocation) (i more name : ℕ) (args : List ℕ) (s : State) → echo.Goes typed fields one.answers one.object i s (Exit (Reverts Depth) s) (inside typed fields one more name args)
         halted fields one i more name args s = record { keeps = echo.keeps_same (Some i) s; plays = tt; echo = tt }
     ways_go (suc room) few =
         let h : WaysGo room (ways typed store room) = ways_go room (omega (arith, few)) in
@@ -239,12 +239,12 @@ module _ (typed : Typed) where
           anew = λ to name args. tested_anew room (ways typed store room) h (omega (arith, few)) to name args;
         }
 
-    anew_then : (m n : Running ℕ) → echo.Anew typed m → echo.Anew typed n → echo.Anew typed (m >> n)
+    anew_then : (m n : Part ℕ) → echo.Anew typed m → echo.Anew typed n → echo.Anew typed (m >> n)
     anew_then m n h k s e = by (m s) (h s e).0 (h s e).1
       where
-        by : (r : Reached ℕ) → echo.Keeps None s (led r) → echo.AllPlay typed s r → echo.Keeps None s (led (after r (λ _. n))) × echo.AllPlay typed s (after r (λ _. n))
-        by (Halts halt u) keeps plays = (keeps, tt)
-        by (Gives x u) keeps plays =
+        by : (r : Control ℕ) → echo.Keeps None s (led r) → echo.AllPlay typed s r → echo.Keeps None s (led (after r (λ _. n))) × echo.AllPlay typed s (after r (λ _. n))
+        by (Exit halt u) keeps plays = (keeps, tt)
+        by (Done x u) keeps plays =
             let next = k u (keeps.empty e) in
             (echo.keeps_then None s u (led (n u)) keeps next.0, echo.play_then typed None s u x (n u) tt plays next.0 next.1)
 
@@ -253,12 +253,12 @@ module _ (typed : Typed) where
     calls_go (call ∷ []) = (ways_go 64 (omega arith)).anew call.object call.method call.args
     calls_go (call ∷ next ∷ calls) = anew_then ((ways typed store 64).anew call.object call.method call.args) (calls_of typed store (next ∷ calls)) ((ways_go 64 (omega arith)).anew call.object call.method call.args) (calls_go (next ∷ calls))
 
-    ran_plays : (limit : ℕ) (r : Reached ℕ) (value : ℕ) → echo.AllPlay typed (fresh limit) r → (ran store limit r).outcome ≡ Answer value → (k : ℕ) (one : Invocation) → slice_get (ran store limit r).invocations k ≡ Some one → one.undone ≡ false → echo.Plays typed k one (block (ran store limit r).steps k)
-    ran_plays limit (Gives x t) value h is k one at stands = h k (omega arith) one at stands
-    ran_plays limit (Halts (Reverts cause) t) value h is k one at stands = absurd (cc)
-    ran_plays limit (Halts RunsOut t) value h is k one at stands = absurd (cc)
+    ran_plays : (limit : ℕ) (r : Control ℕ) (value : ℕ) → echo.AllPlay typed (initial_state limit) r → (result_of store limit r).outcome ≡ Answer value → (k : ℕ) (one : Invocation) → slice_get (result_of store limit r).invocations k ≡ Some one → one.undone ≡ false → echo.Plays typed k one (block (result_of store limit r).steps k)
+    ran_plays limit (Done x t) value h is k one at stands = h k (omega arith) one at stands
+    ran_plays limit (Exit (Reverts cause) t) value h is k one at stands = absurd (cc)
+    ran_plays limit (Exit RunsOut t) value h is k one at stands = absurd (cc)
 
     -- each invocation of a run that answered, but for those undone
     pub run_plays : (tx : Tx) (value : ℕ) → (run typed store tx).outcome ≡ Answer value → (k : ℕ) (one : Invocation) → slice_get (run typed store tx).invocations k ≡ Some one → one.undone ≡ false → echo.Plays typed k one (block (run typed store tx).steps k)
     unfolding run
-    run_plays tx value is k one at stands = ran_plays tx.fuel (calls_of typed store tx.calls (fresh tx.fuel)) value (calls_go tx.calls (fresh tx.fuel) (λ k new. refl)).1 is k one at stands
+    run_plays tx value is k one at stands = ran_plays tx.fuel (calls_of typed store tx.calls (initial_state tx.fuel)) value (calls_go tx.calls (initial_state tx.fuel) (λ k new. refl)).1 is k one at stands

@@ -11,8 +11,8 @@ use Rattle.ecf_lang.specs.declared.run.Outcome.TheVariants.{Answer, Reverted, Ou
 use Rattle.ecf_lang.specs.declared.typed.Typed.{Typed}
 use Rattle.ecf_lang.specs.declared.tx.Tx.{Tx}
 use Rattle.ecf_lang.specs.Store.{Store, IsStore, read, with_writes}
-use Rattle.ecf_lang.specs.Running.{Reached, Gives, Halts}
-use Rattle.ecf_lang.specs.Meaning.{run, ran, fresh}
+use Rattle.ecf_lang.specs.Part.{Control, Done, Exit}
+use Rattle.ecf_lang.specs.Meaning.{run, result_of, initial_state}
 use Rattle.ecf_lang.specs.Alone.{Lone, lone_of, by_itself, alone}
 use Rattle.ecf_laws.specs.Laws.{IsOfStanding}
 use Rattle.ecf_laws.specs.Replay.{AreSeen, after_steps}
@@ -231,13 +231,13 @@ each_does_next typed store tx object before opening is_store committed agree tak
     let answer = answer_of (run typed store tx).outcome both.0 in
     next_does typed store tx object answer.0 answer.1 before opening is_store (both.1 object) agree taken more inv e
 
-ran_store : (inv limit : ℕ) (fields : Store) (r : Reached ℕ) → IsStore fields → IsStore (lone_of inv (ran fields limit r)).fields
-ran_store inv limit fields (Gives x s) h = writes_make_store fields s.written h
-ran_store inv limit fields (Halts halt s) h = h
+ran_store : (inv limit : ℕ) (fields : Store) (r : Control ℕ) → IsStore fields → IsStore (lone_of inv (result_of fields limit r)).fields
+ran_store inv limit fields (Done x s) h = writes_make_store fields s.written h
+ran_store inv limit fields (Exit halt s) h = h
 
 alone_store : (typed : Typed) (inv : ℕ) (one : Invocation) (fields : Store) → IsStore fields → IsStore (alone typed inv one fields).fields
 unfolding alone
-alone_store typed inv one fields h = ran_store inv one.own_fuel fields (by_itself typed fields one (fresh one.own_fuel)) h
+alone_store typed inv one fields h = ran_store inv one.own_fuel fields (by_itself typed fields one (initial_state one.own_fuel)) h
 
 first_store : (typed : Typed) (inv : ℕ) (o : Option Invocation) (fields : Store) (others : Store → Apart) → ((left : Store) → IsStore left → IsStore (others left).fields) → IsStore fields → IsStore (first_alone typed inv o fields others).fields
 first_store typed inv None fields others k h = k fields h

@@ -12,13 +12,13 @@ use Rattle.ecf_lang.specs.Meaning.{run}
 use Rattle.ecf_lang.specs.Store.{Store}
 use Rattle.ecf_verdicts.specs.Free.{Free}
 use Rattle.ecf_verdicts.specs.Laws.{IsVeto}
-use Rattle.ecf_verdicts.specs.Receipts.{Serial, answered, receipt_of, kept, next, receipt_on, serial, serial_from}
+use Rattle.ecf_verdicts.specs.Receipts.{Serial, receipt_of_answer, receipt_of, kept, next, receipt_on, serial, serial_from}
 use Rattle.ecf_verdicts.specs.SerialLaws.{IsAnswer, IsVetoed, IsCommitted, VetoedWhereNotFree, CommitKeepsEnd, OnlyCommitChanges, CommittedWhereFree, SerialBegins, SerialAddsOne, SerialGoesOn, ReceiptEach}
 use Rattle.ecf_verdicts.specs.Traces.{trace}
 use Rattle.ecf_verdicts.specs.Verdicts.{Verdict, Approved, Vetoed, verdict}
 use Rattle.ecf_verdicts.proofs.VerdictLaws.{vetoed_exactly_where, approves_free}
 
-veto_kept : (value fuel : ℕ) (v : Verdict) → (IsVetoed (answered value fuel v) → IsVeto v) × (IsVeto v → IsVetoed (answered value fuel v))
+veto_kept : (value fuel : ℕ) (v : Verdict) → (IsVetoed (receipt_of_answer value fuel v) → IsVeto v) × (IsVeto v → IsVetoed (receipt_of_answer value fuel v))
 veto_kept value fuel (Approved orders) = (λ h. h, λ h. h)
 veto_kept value fuel (Vetoed o n c) = (λ h. h, λ h. h)
 
@@ -64,7 +64,7 @@ pub only_commit_changes : OnlyCommitChanges
 unfolding next
 only_commit_changes typed store tx h = kept_other (receipt_on typed store tx) store (run typed store tx).store h
 
-commit_of_verdict : (value fuel : ℕ) (steps : List Step) (v : Verdict) → verdict steps ≡ v → (IsCommitted (answered value fuel v) → (o : ℕ) → Free (trace steps o)) × (((o : ℕ) → Free (trace steps o)) → IsCommitted (answered value fuel v))
+commit_of_verdict : (value fuel : ℕ) (steps : List Step) (v : Verdict) → verdict steps ≡ v → (IsCommitted (receipt_of_answer value fuel v) → (o : ℕ) → Free (trace steps o)) × (((o : ℕ) → Free (trace steps o)) → IsCommitted (receipt_of_answer value fuel v))
 commit_of_verdict value fuel steps (Approved orders) e = (λ h. approves_free steps orders e, λ h. tt)
 commit_of_verdict value fuel steps (Vetoed o n c) e = (λ h. absurd h, λ h. (let w = (vetoed_exactly_where steps).0 (subst IsVeto (sym e) tt) in w.1 (h w.0)))
 

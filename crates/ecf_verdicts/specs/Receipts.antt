@@ -13,13 +13,13 @@ use Rattle.ecf_lang.specs.Store.{Store}
 use Rattle.ecf_verdicts.specs.Verdicts.{Verdict, Approved, Vetoed, verdict}
 
 -- the receipt of a run that answered: committed with its orders, or vetoed
-abbrev pub answered : ℕ → ℕ → Verdict → Receipt
-answered value fuel (Approved orders) = receipt.Committed value fuel orders
-answered value fuel (Vetoed object at cycle) = receipt.Vetoed object at cycle fuel
+abbrev pub receipt_of_answer : ℕ → ℕ → Verdict → Receipt
+receipt_of_answer value fuel (Approved orders) = receipt.Committed value fuel orders
+receipt_of_answer value fuel (Vetoed object at cycle) = receipt.Vetoed object at cycle fuel
 
 -- the receipt of a run by its outcome, its fuel and its steps; only a run that answered is judged
 abbrev pub receipt_of : Outcome → ℕ → List Step → Receipt
-receipt_of (outcome.Answer value) fuel steps = answered value fuel (verdict steps)
+receipt_of (outcome.Answer value) fuel steps = receipt_of_answer value fuel (verdict steps)
 receipt_of (outcome.Reverted cause) fuel steps = receipt.Reverted cause fuel
 receipt_of outcome.OutOfFuel fuel steps = receipt.OutOfFuel fuel
 

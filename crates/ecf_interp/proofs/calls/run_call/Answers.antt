@@ -1,5 +1,5 @@
 use Rattle.std.proofs.Common.{All, ap, sym, subst, ◌∙◌, arith}
-use Rattle.ecf_lang.specs.Running.{begin}
+use Rattle.ecf_lang.specs.Part.{begin}
 use Rattle.ecf_interp.specs.Built.{IsBuiltStmt}
 use Rattle.ecf_interp.proofs.CallSteps.{method_built, call_full, call_missing, call_opened}
 use Rattle.ecf_interp.proofs.calls.run_call.Goals as goal
