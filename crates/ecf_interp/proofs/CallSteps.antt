@@ -19,7 +19,7 @@ use Rattle.ecf_lang.specs.Store.{Store}
 use Rattle.ecf_lang.specs.Fits.{method_of, method_at}
 use Rattle.ecf_lang.specs.Part.{State, Exit, Done, Reverts, Control, Part, after, ◌>>=◌, ◌>>◌, pure, begin, note, with_answer}
 use Rattle.ecf_lang.specs.Meaning.{Frame, Opens, Flow, Continues, Returns, flow_answer, body_of, locals_of, frame_of, ways, checked_call, calls_of, initial_state, result_of, kept_run, run}
-use Rattle.ecf_lang.proofs.Forms.{block_is, anew_is}
+use Rattle.ecf_lang.specs.Forms.{block_is, anew_is}
 use Rattle.ecf_interp.specs.declared.machine.Task.{Task}
 use Rattle.ecf_interp.specs.Built.{IsBuilt, IsBuiltObject, IsBuiltBlock}
 use Rattle.ecf_interp.specs.Reach.{reached, closing}

@@ -26,7 +26,7 @@ use Rattle.ecf_lang.specs.Store.{Store}
 use Rattle.ecf_lang.specs.Fits.{method_at}
 use Rattle.ecf_lang.specs.Part.{State, Control, Done, Exit, RunsOut, Part, after, ◌>>=◌, ◌>>◌, pure, revert, pay, with_change, with_charge, read_cell, write_cell, begin, note, with_answer}
 use Rattle.ecf_lang.specs.Meaning.{Frame, Flow, Continues, Returns, value_of, stmt_of, charge, fetch, chain, own_cell, name_value, or_revert, op_value, sequence, go_on, body_of, locals_of, frame_of, ways, invoke, initial_state, calls_of, result_of, run, flow_answer}
-use Rattle.ecf_lang.proofs.Forms.{value_number, value_name, value_sum, stmt_set, stmt_return, stmt_revert, block_is, anew_is}
+use Rattle.ecf_lang.specs.Forms.{value_number, value_name, value_sum, stmt_set, stmt_return, stmt_revert, block_is, anew_is}
 use Rattle.ecf_interp.specs.Built.{IsBuilt, IsBuiltStmt, IsBuiltBlock, is_built_expr, is_built_part, is_built_stmt, is_add, is_plain, is_field}
 use Rattle.ecf_interp.specs.Load.{size_of, parts_size}
 use Rattle.ecf_interp.specs.OneInvocation.{StepsAreOfTheFirst}

@@ -17,7 +17,7 @@ use Rattle.ecf_lang.specs.declared.typed.TypedStmt.TheVariants as stmt
 use Rattle.ecf_lang.specs.Store.{Store}
 use Rattle.ecf_lang.specs.Part.{State, Exit, Done, Reverts, RunsOut, Control, Part, after, ◌>>=◌, pure, revert, pay, read_cell, write_cell}
 use Rattle.ecf_lang.specs.Meaning.{Opens, Frame, Flow, Continues, Returns, value_of, chain, own_cell, go_on, assign}
-use Rattle.ecf_lang.proofs.Forms.{value_number, value_name, value_sum, stmt_set, stmt_return, stmt_revert}
+use Rattle.ecf_lang.specs.Forms.{value_number, value_name, value_sum, stmt_set, stmt_return, stmt_revert}
 use Rattle.ecf_interp.specs.Built.{is_built_part}
 use Rattle.ecf_interp.proofs.BuiltForms.{built_add}
 use Rattle.ecf_interp.specs.declared.machine.Task.{Task}

@@ -33,7 +33,7 @@ pub record CallFits (typed : Typed) (call : TxCall) : Type 0 where
   pub method : IsSome (method_at typed call.object call.method)
   pub arguments : MatchOption (slice_get typed.signatures call.method) ⊥ (λ s. ArgumentsFit typed s.params call.args)
 
--- one to eight calls that fit, and a fuel limit from 1 to 1,000,000
+-- at least one call and at most MAX_CALLS, each of which fits, and a fuel limit from 1 to MAX_FUEL
 pub record Fits (typed : Typed) (tx : Tx) : Type 0 where
   pub some_call : 1 ≤ length tx.calls
   pub few_calls : length tx.calls ≤ MAX_CALLS

@@ -5,3 +5,4 @@ pub mod Part
 pub mod Meaning
 pub mod Alone
 pub mod Draft
+pub mod Forms

@@ -42,9 +42,9 @@ pub enum Cause {
     DivZero,
     /// A call of a method that the object hasn't.
     NoMethod,
-    /// A 65th open frame.
+    /// A frame more than may be open at once.
     Depth,
-    /// A 1,025th invocation.
+    /// An invocation more than a transaction may have.
     Calls,
 }
 

@@ -30,8 +30,8 @@ pub struct TxCall {
 /// A transaction that several owners hold.
 pub type TxRef = Arc<Tx>;
 
-/// Whether the transaction can run on the contract: one to eight calls, of methods that their objects
-/// have, with arguments right in number and range, and a fuel limit from 1 to 1,000,000.
+/// Whether the transaction can run on the contract: from 1 to [`MAX_CALLS`] calls, of methods that their
+/// objects have, with arguments right in number and range, and a fuel limit from 1 to [`MAX_FUEL`].
 pub fn fits(typed: &Typed, tx: &Tx) -> bool
     ensures { IsTrue result ↔ Fits typed.now tx.now }
 {

@@ -2,7 +2,7 @@
 use Rattle.std.proofs.Common.{◌≡◌, ℕ, suc, Bool, List, map, Option, Some, None, refl, ap, sym, ◌∙◌}
 use Rattle.std.specs.Prelude.{slice_set}
 use Rattle.std.specs.Option.{option_map}
-use Rattle.ecf_lang.specs.declared.costs.TheConstants.{STATEMENT, TURN, LEAF, READ, WRITE, OPERATOR, TEST, EXTERNAL_CALL, INTERNAL_CALL}
+use Rattle.ecf_lang.specs.declared.costs.TheConstants.{STATEMENT, LEAF, READ, WRITE, OPERATOR, EXTERNAL_CALL, INTERNAL_CALL}
 use Rattle.ecf_lang.specs.declared.tree.Op.{Op}
 use Rattle.ecf_lang.specs.declared.tree.Ty.{Ty}
 use Rattle.ecf_lang.specs.declared.run.Cause.TheVariants.{User}
