@@ -1,3 +1,3 @@
-pub mod Lexemes
-pub mod Cuts
-pub mod Readings
+pub mod LexemeLaws
+pub mod CutLaws
+pub mod ReadingLaws

@@ -25,10 +25,10 @@ abbrev pub lexemes_of : List ℕ → List Token → List Lexeme
 lexemes_of source = map (λ t. lexeme t.kind (slice_range source t.start t.end))
 
 -- lexemes, each behind the number of its token
-abbrev pub Numbered : Type 0
-Numbered = List (ℕ × Lexeme)
+abbrev pub NumberedLexemes : Type 0
+NumberedLexemes = List (ℕ × Lexeme)
 
--- lexemes whose tokens are numbered from there on
-abbrev pub numbered : ℕ → List Lexeme → Numbered
-numbered at [] = []
-numbered at (l ∷ ls) = (at, l) ∷ numbered (at + 1) ls
+-- lexemes with the numbers of their tokens, from there on
+abbrev pub with_numbers : ℕ → List Lexeme → NumberedLexemes
+with_numbers at [] = []
+with_numbers at (l ∷ ls) = (at, l) ∷ with_numbers (at + 1) ls

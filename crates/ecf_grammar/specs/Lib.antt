@@ -1,6 +1,7 @@
 pub mod Spelling
+pub mod Spellings
 pub mod Reading
-pub mod ReadingLaws
+pub mod Readings
 pub mod Lexemes
 pub mod Nesting
 pub mod Spells

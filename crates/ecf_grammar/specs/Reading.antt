@@ -1,29 +1,30 @@
 -- What it means that a text reads as a list of tokens, and which fault comes first in a text that doesn't.
--- A text is cut into pieces (blanks, comments and lexemes), each the longest at its place.
+-- A text is cut into pieces (blanks, comments and the texts of tokens), each the longest at its place.
 use Rattle.std.specs.Prelude.{◌≡◌, ◌≢◌, ℕ, ◌+◌, ◌^◌, ◌<◌, ◌≤◌, ◌==◌, not, IsTrue, List, [], ◌∷◌, ◌++◌, length, codes, slice_range, ⊤}
 use Rattle.std.specs.List.{AllByRecursion, list_all}
+use Rattle.ecf_lang.specs.declared.limits.TheConstants.{MAX_TOKENS}
 use Rattle.ecf_grammar.specs.declared.tokens.Kind.{Kind}
 use Rattle.ecf_grammar.specs.declared.tokens.Kind.TheVariants as kind
 use Rattle.ecf_grammar.specs.declared.tokens.Token.{Token}
 use Rattle.ecf_grammar.specs.Spelling.{is_blank, IsLexeme}
 
--- a blank byte, a comment by what stands behind its two slashes, or the bytes of a token
+-- a blank byte, a comment by what stands behind its two slashes, or a token by its kind and bytes
 pub data Piece : Type 0 where
   Blank : ℕ → Piece
   Comment : List ℕ → Piece
-  Lexeme : Kind → List ℕ → Piece
+  TokenText : Kind → List ℕ → Piece
 
 -- the bytes of a piece
 abbrev pub bytes_of : Piece → List ℕ
 bytes_of (Blank byte) = byte ∷ []
 bytes_of (Comment remark) = codes "//" ++ remark
-bytes_of (Lexeme k bytes) = bytes
+bytes_of (TokenText k bytes) = bytes
 
 -- the piece is spelled as it has to be; no LF stands in a comment
 abbrev pub IsPiece : Piece → Type 0
 IsPiece (Blank byte) = IsTrue (is_blank byte)
 IsPiece (Comment remark) = IsTrue (list_all (λ byte. not (byte == 10)) remark)
-IsPiece (Lexeme k bytes) = IsLexeme k bytes
+IsPiece (TokenText k bytes) = IsLexeme k bytes
 
 -- the text begins with the piece, and the rest comes behind it
 pub record Begins (text : List ℕ) (piece : Piece) (rest : List ℕ) : Type 0 where
@@ -44,7 +45,7 @@ IsCut text (piece ∷ pieces) rest = (behind : List ℕ) × BeginsLongest text p
 abbrev pub token_at : ℕ → Piece → List Token
 token_at at (Blank byte) = []
 token_at at (Comment remark) = []
-token_at at (Lexeme k bytes) = record { kind = k; start = at; end = at + length bytes } ∷ []
+token_at at (TokenText k bytes) = record { kind = k; start = at; end = at + length bytes } ∷ []
 
 -- the tokens among pieces that stand from a place on
 abbrev pub tokens_from : ℕ → List Piece → List Token
@@ -58,17 +59,13 @@ IsInRange (kind.Number value) = value < 2 ^ 128
 IsInRange (kind.Word w) = ⊤
 IsInRange (kind.Sign s) = ⊤
 
--- how many tokens a text may have
-abbrev pub token_limit : ℕ
-token_limit = 200000
-
 -- up to the rest, the source reads as these tokens
 pub record ReadsUpTo (source : List ℕ) (tokens : List Token) (rest : List ℕ) : Type 0 where
   pub pieces : List Piece
   pub cut : IsCut source pieces rest
   pub all : tokens_from 0 pieces ≡ tokens
   pub in_range : AllByRecursion (λ t. IsInRange t.kind) tokens
-  pub few : length tokens ≤ token_limit
+  pub few : length tokens ≤ MAX_TOKENS
 
 -- the whole source reads as these tokens
 abbrev pub Reads : List ℕ → List Token → Type 0
@@ -88,13 +85,13 @@ place (TooManyTokens at) = at
 
 -- the text begins with a token of this kind, read by longest match
 abbrev pub BeginsToken : List ℕ → Kind → Type 0
-BeginsToken text k = (bytes : List ℕ) × (rest : List ℕ) × BeginsLongest text (Lexeme k bytes) rest
+BeginsToken text k = (bytes : List ℕ) × (rest : List ℕ) × BeginsLongest text (TokenText k bytes) rest
 
 -- what refuses the text behind so many tokens: a byte that begins no piece, a number from 2^128 on, or a token too many
 abbrev pub Refuses : Fault → ℕ → List ℕ → Type 0
 Refuses (BadByte at) count text = (text ≢ []) × ((piece : Piece) (rest : List ℕ) → ¬ Begins text piece rest)
-Refuses (WideNumber at) count text = (count < token_limit) × (value : ℕ) × (2 ^ 128 ≤ value) × BeginsToken text (kind.Number value)
-Refuses (TooManyTokens at) count text = (count ≡ token_limit) × (k : Kind) × BeginsToken text k
+Refuses (WideNumber at) count text = (count < MAX_TOKENS) × (value : ℕ) × (2 ^ 128 ≤ value) × BeginsToken text (kind.Number value)
+Refuses (TooManyTokens at) count text = (count ≡ MAX_TOKENS) × (k : Kind) × BeginsToken text k
 
 -- the source reads as tokens up to the byte at fault, and what stands there is refused for that fault
 pub record IsFaulty (source : List ℕ) (fault : Fault) : Type 0 where

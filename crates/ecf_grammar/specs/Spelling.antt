@@ -1,7 +1,8 @@
 -- How words, signs, names and numbers are spelled, in bytes.
-use Rattle.std.specs.Prelude.{◌≡◌, ◌≢◌, ℕ, ◌+◌, ◌-◌, ◌*◌, ◌==◌, ◌||◌, Bool, IsTrue, List, [], ◌∷◌, fold, codes}
+use Rattle.std.specs.Prelude.{◌≡◌, ◌≢◌, ℕ, ◌==◌, ◌||◌, Bool, IsTrue, List, [], ◌∷◌, codes}
 use Rattle.std.specs.List.{list_all}
-use Rattle.std.specs.Char.{is_ascii_alphabetic, is_ascii_alphanumeric, is_ascii_digit}
+use Rattle.std.specs.Char.{is_ascii_alphabetic, is_ascii_alphanumeric}
+use Rattle.ecf_decimal.specs.Decimal.{is_numeral, number_value}
 use Rattle.ecf_grammar.specs.declared.tokens.Kind.{Kind}
 use Rattle.ecf_grammar.specs.declared.tokens.Kind.TheVariants as kind
 use Rattle.ecf_grammar.specs.declared.tokens.Word.{Word}
@@ -81,18 +82,9 @@ pub record IsName (bytes : List ℕ) : Type 0 where
   pub identifier : IsIdentifier bytes
   pub free : (w : Word) → bytes ≢ word_text w
 
--- one digit or more
-pub record IsDigits (bytes : List ℕ) : Type 0 where
-  pub some : bytes ≢ []
-  pub digits : IsTrue (list_all is_ascii_digit bytes)
-
--- the value of decimal digits
-abbrev pub number_value : List ℕ → ℕ
-number_value digits = fold (λ value digit. 10 * value + (digit - 48)) 0 digits
-
 -- these bytes are spelled as a token of that kind, a number of whatever size
 abbrev pub IsLexeme : Kind → List ℕ → Type 0
 IsLexeme kind.Name bytes = IsName bytes
-IsLexeme (kind.Number value) bytes = IsDigits bytes × (number_value bytes ≡ value)
+IsLexeme (kind.Number value) bytes = IsTrue (is_numeral bytes) × (number_value bytes ≡ value)
 IsLexeme (kind.Word w) bytes = bytes ≡ word_text w
 IsLexeme (kind.Sign s) bytes = bytes ≡ sign_text s

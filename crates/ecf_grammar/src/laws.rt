@@ -1,6 +1,7 @@
 //! What holds of every reading, whoever does it.
 
-ghost use Rattle.ecf_grammar.specs.ReadingLaws.{OneReading, ReadOrRefused, OneFault, TokensAreSpelled, TokensStandInOrder};
+ghost use Rattle.ecf_grammar.specs.Readings.{OneReading, ReadOrRefused, OneFault, TokensAreSpelled, TokensStandInOrder, PiecesHaveBytes, ReadingGoesOn};
+ghost use Rattle.ecf_grammar.specs.Spellings.{LexemesBeginApart};
 
 /// Longest match leaves no choice: a text reads as one list of tokens at most.
 pub fn one_reading()
@@ -21,4 +22,15 @@ pub fn one_fault()
 pub fn tokens_in_place()
     ensures spelled { TokensAreSpelled }
     ensures in_order { TokensStandInOrder }
+{}
+
+/// A reading goes on by the longest piece at its end, be it a token or not; and each piece has some bytes, so that it ends.
+pub fn reading_goes_on()
+    ensures further { ReadingGoesOn }
+    ensures some { PiecesHaveBytes }
+{}
+
+/// A reserved word begins as a name does; a sign has one byte or two, and begins neither as a name, a number, a blank nor a comment.
+pub fn lexemes_begin_apart()
+    ensures { LexemesBeginApart }
 {}

@@ -4,5 +4,7 @@
 mod laws;
 mod tokens;
 
-pub use laws::{one_fault, one_reading, read_or_refused, tokens_in_place};
+pub use laws::{
+    lexemes_begin_apart, one_fault, one_reading, read_or_refused, reading_goes_on, tokens_in_place,
+};
 pub use tokens::{Kind, Sign, Token, Word};

@@ -1,4 +1,4 @@
-use Rattle.ecf_grammar.proofs.Readings.{one_fault}
+use Rattle.ecf_grammar.proofs.ReadingLaws.{one_fault}
 use Rattle.ecf_grammar.proofs.laws.one_fault.Goals as goal
 
 pub returns : goal.returns

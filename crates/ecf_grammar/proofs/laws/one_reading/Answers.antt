@@ -1,4 +1,4 @@
-use Rattle.ecf_grammar.proofs.Readings.{one_reading}
+use Rattle.ecf_grammar.proofs.ReadingLaws.{one_reading}
 use Rattle.ecf_grammar.proofs.laws.one_reading.Goals as goal
 
 pub returns : goal.returns

@@ -1,4 +1,4 @@
-use Rattle.ecf_grammar.proofs.Readings.{tokens_are_spelled, tokens_stand_in_order}
+use Rattle.ecf_grammar.proofs.ReadingLaws.{tokens_are_spelled, tokens_stand_in_order}
 use Rattle.ecf_grammar.proofs.laws.tokens_in_place.Goals as goal
 
 pub returns-clause-spelled : goal.returns-clause-spelled

@@ -3,15 +3,16 @@ use Rattle.std.proofs.Common.{◌≡◌, ℕ, ◌+◌, ◌-◌, ◌^◌, ◌<◌
 use Rattle.std.specs.Prelude.{slice_range}
 use Rattle.std.specs.List.{AllByRecursion}
 use Rattle.std.proofs.lemmas.List.{take_at, drop_at}
+use Rattle.ecf_lang.specs.declared.limits.TheConstants.{MAX_TOKENS}
 use Rattle.ecf_grammar.specs.declared.tokens.Kind.{Kind}
 use Rattle.ecf_grammar.specs.declared.tokens.Kind.TheVariants as kind
 use Rattle.ecf_grammar.specs.declared.tokens.Token.{Token}
 use Rattle.ecf_grammar.specs.Spelling.{IsLexeme}
-use Rattle.ecf_grammar.specs.Reading.{Piece, bytes_of, BeginsLongest, IsCut, token_at, tokens_from, IsInRange, token_limit, ReadsUpTo, Fault, place, Refuses, IsFaulty, IsTokenOf, StandInOrder}
-use Rattle.ecf_grammar.specs.Reading.Piece.{Blank, Comment, Lexeme}
+use Rattle.ecf_grammar.specs.Reading.{Piece, bytes_of, BeginsLongest, IsCut, token_at, tokens_from, IsInRange, ReadsUpTo, Fault, place, Refuses, IsFaulty, IsTokenOf, StandInOrder}
+use Rattle.ecf_grammar.specs.Reading.Piece.{Blank, Comment, TokenText}
 use Rattle.ecf_grammar.specs.Reading.Fault.{BadByte, WideNumber, TooManyTokens}
-use Rattle.ecf_grammar.specs.ReadingLaws.{OneReading, ReadOrRefused, OneFault, TokensAreSpelled, TokensStandInOrder}
-use Rattle.ecf_grammar.proofs.Cuts.{one_longest, none_begins, GoesOn, one_goes_on, tokens_from-append, end_of, piece_len}
+use Rattle.ecf_grammar.specs.Readings.{OneReading, ReadOrRefused, OneFault, TokensAreSpelled, TokensStandInOrder, ReadingGoesOn}
+use Rattle.ecf_grammar.proofs.CutLaws.{one_longest, none_begins, cut_then, GoesOn, one_goes_on, tokens_from-append, end_of, end_of-cut, piece_len}
 
 -- ---- a reading doesn't go on where a fault stands
 
@@ -26,40 +27,40 @@ all_in_middle (x ∷ xs) y ys h = all_in_middle xs y ys h.1
 record Reaches (ps : List Piece) (k : Kind) (tokens : List Token) : Type 0 where
   bytes : List ℕ
   more : List Piece
-  is : tokens_from 0 (ps ++ Lexeme k bytes ∷ more) ≡ tokens
+  is : tokens_from 0 (ps ++ TokenText k bytes ∷ more) ≡ tokens
 
 reached_in_range : (ps : List Piece) (k : Kind) (tokens : List Token) → Reaches ps k tokens → AllByRecursion InRange tokens → IsInRange k
 reached_in_range ps k tokens h all =
-    let e = sym (tokens_from-append 0 ps (Lexeme k h.bytes ∷ h.more)) ∙ h.is in
+    let e = sym (tokens_from-append 0 ps (TokenText k h.bytes ∷ h.more)) ∙ h.is in
     all_in_middle (tokens_from 0 ps) _ _ (subst (AllByRecursion InRange) (sym e) all)
 
 reached_more : (ps : List Piece) (k : Kind) (tokens : List Token) → Reaches ps k tokens → length (tokens_from 0 ps) < length tokens
 reached_more ps k tokens h =
     let end = end_of 0 ps in
-    let e = ap length (sym (tokens_from-append 0 ps (Lexeme k h.bytes ∷ h.more)) ∙ h.is) in
-    omega (arith, e, length-append (tokens_from 0 ps) (tokens_from end (Lexeme k h.bytes ∷ h.more)))
+    let e = ap length (sym (tokens_from-append 0 ps (TokenText k h.bytes ∷ h.more)) ∙ h.is) in
+    omega (arith, e, length-append (tokens_from 0 ps) (tokens_from end (TokenText k h.bytes ∷ h.more)))
 
-reaches : (ps : List Piece) (p : Piece) (more : List Piece) (k : Kind) (bytes : List ℕ) (tokens : List Token) → p ≡ Lexeme k bytes → tokens_from 0 (ps ++ p ∷ more) ≡ tokens → Reaches ps k tokens
+reaches : (ps : List Piece) (p : Piece) (more : List Piece) (k : Kind) (bytes : List ℕ) (tokens : List Token) → p ≡ TokenText k bytes → tokens_from 0 (ps ++ p ∷ more) ≡ tokens → Reaches ps k tokens
 reaches ps p more k bytes tokens e is = record { bytes = bytes; more = more; is = subst (λ q. tokens_from 0 (ps ++ q ∷ more) ≡ tokens) e is }
 
 no_more : (fault : Fault) (ps : List Piece) (text : List ℕ) (p : Piece) (behind : List ℕ) (more : List Piece) (tokens : List Token)
     → Refuses fault (length (tokens_from 0 ps)) text → BeginsLongest text p behind → tokens_from 0 (ps ++ p ∷ more) ≡ tokens
-    → AllByRecursion InRange tokens → length tokens ≤ token_limit → ⊥
+    → AllByRecursion InRange tokens → length tokens ≤ MAX_TOKENS → ⊥
 no_more (BadByte at) ps text p behind more tokens r b is all few = r.1 p behind b.begins
 no_more (WideNumber at) ps text p behind more tokens r b is all few =
     let token = r.3 in
-    let same = one_longest text p (Lexeme (kind.Number r.1) token.0) behind token.1 b token.2 in
+    let same = one_longest text p (TokenText (kind.Number r.1) token.0) behind token.1 b token.2 in
     let small : r.1 < 2 ^ 128 = reached_in_range ps (kind.Number r.1) tokens (reaches ps p more (kind.Number r.1) token.0 tokens same.0 is) all in
     omega (arith, small, r.2)
 no_more (TooManyTokens at) ps text p behind more tokens r b is all few =
     let token = r.2 in
-    let same = one_longest text p (Lexeme r.1 token.0) behind token.1 b token.2 in
+    let same = one_longest text p (TokenText r.1 token.0) behind token.1 b token.2 in
     omega (arith, reached_more ps r.1 tokens (reaches ps p more r.1 token.0 tokens same.0 is), r.0)
 
 -- so it stops there
 stops : (fault : Fault) (ps : List Piece) (text : List ℕ) (more : List Piece) (rest : List ℕ) (tokens : List Token)
     → Refuses fault (length (tokens_from 0 ps)) text → IsCut text more rest → tokens_from 0 (ps ++ more) ≡ tokens
-    → AllByRecursion InRange tokens → length tokens ≤ token_limit → (text ≡ rest) × (tokens_from 0 ps ≡ tokens)
+    → AllByRecursion InRange tokens → length tokens ≤ MAX_TOKENS → (text ≡ rest) × (tokens_from 0 ps ≡ tokens)
 stops fault ps text [] rest tokens r cut is all few = (cut, ap (tokens_from 0) (sym (append-nil ps)) ∙ is)
 stops fault ps text (p ∷ more) rest tokens r cut is all few = absurd (no_more fault ps text p cut.0 more tokens r cut.1 is all few)
 
@@ -137,10 +138,10 @@ one_fault source fault other f g =
 
 -- ---- where the tokens stand
 
-spelled_at : (front bytes behind : List ℕ) (k : Kind) (at : ℕ) → at ≡ length front → BeginsLongest (bytes ++ behind) (Lexeme k bytes) behind
+spelled_at : (front bytes behind : List ℕ) (k : Kind) (at : ℕ) → at ≡ length front → BeginsLongest (bytes ++ behind) (TokenText k bytes) behind
     → IsTokenOf (front ++ (bytes ++ behind)) (record { kind = k; start = at; end = at + length bytes })
 spelled_at front bytes behind k at e b =
-    let some = piece_len (Lexeme k bytes) b.begins.spelled in
+    let some = piece_len (TokenText k bytes) b.begins.spelled in
     let text : slice_range (front ++ (bytes ++ behind)) at (at + length bytes) ≡ bytes =
     ap (λ t. take (at + length bytes - at) t) (drop_at front (bytes ++ behind) at (sym e)) ∙ take_at bytes behind (at + length bytes - at) (omega arith) in
     record {
@@ -152,10 +153,10 @@ spelled_at front bytes behind k at e b =
 first_spelled : (front : List ℕ) (p : Piece) (text behind : List ℕ) (at : ℕ) → at ≡ length front → BeginsLongest text p behind → AllByRecursion (IsTokenOf (front ++ text)) (token_at at p)
 first_spelled front (Blank b) text behind at e h = tt
 first_spelled front (Comment r) text behind at e h = tt
-first_spelled front (Lexeme k bytes) text behind at e h =
+first_spelled front (TokenText k bytes) text behind at e h =
     let whole = h.begins.whole in (
       subst (λ t. IsTokenOf (front ++ t) (record { kind = k; start = at; end = at + length bytes })) (sym whole)
-          (spelled_at front bytes behind k at e (subst (λ t. BeginsLongest t (Lexeme k bytes) behind) whole h)),
+          (spelled_at front bytes behind k at e (subst (λ t. BeginsLongest t (TokenText k bytes) behind) whole h)),
       tt,
     )
 
@@ -180,7 +181,28 @@ in_order_from : (from at : ℕ) (ps : List Piece) → from ≤ at → StandInOrd
 in_order_from from at [] le = tt
 in_order_from from at (Blank b ∷ ps) le = in_order_from from (at + 1) ps (omega arith)
 in_order_from from at (Comment r ∷ ps) le = in_order_from from (at + length (bytes_of (Comment r))) ps (omega arith)
-in_order_from from at (Lexeme k bytes ∷ ps) le = (le, in_order_from (at + length bytes) (at + length bytes) ps (omega arith))
+in_order_from from at (TokenText k bytes ∷ ps) le = (le, in_order_from (at + length bytes) (at + length bytes) ps (omega arith))
 
 pub tokens_stand_in_order : TokensStandInOrder
 tokens_stand_in_order source tokens h = subst (StandInOrder 0) h.all (in_order_from 0 0 h.pieces (omega arith))
+
+-- ---- a reading goes on
+
+pub reading_goes_on : ReadingGoesOn
+reading_goes_on source text behind tokens more at piece h place longest is in_range few =
+    let pieces = h.pieces in
+    let end : end_of 0 pieces ≡ at = omega (arith, end_of-cut 0 source pieces text h.cut, place) in
+    let last : IsCut text (piece ∷ []) behind = (behind, longest, refl) in
+    let same : tokens_from 0 (pieces ++ piece ∷ []) ≡ tokens ++ more =
+    tokens_from-append 0 pieces (piece ∷ [])
+    ∙ ap (λ t. tokens_from 0 pieces ++ t) (append-nil (token_at (end_of 0 pieces) piece))
+    ∙ ap (λ n. tokens_from 0 pieces ++ token_at n piece) end
+    ∙ ap (λ t. tokens_from 0 pieces ++ t) is
+    ∙ ap (λ t. t ++ more) h.all in
+    record {
+      pieces = pieces ++ piece ∷ [];
+      cut = cut_then source pieces text (piece ∷ []) behind h.cut last;
+      all = same;
+      in_range = all_append InRange tokens more h.in_range in_range;
+      few = few;
+    }

@@ -2,15 +2,15 @@
 use Rattle.std.proofs.Common.{◌≡◌, ℕ, ◌+◌, ◌<◌, true, List, [], ◌∷◌, ◌++◌, length, refl, sym, ap, subst, ◌∙◌, arith, inl, inr, ◌⊎◌, append_assoc, length-append}
 use Rattle.ecf_grammar.specs.Spelling.{is_blank, IsLexeme}
 use Rattle.ecf_grammar.specs.Reading.{Piece, bytes_of, IsPiece, Begins, BeginsLongest, IsCut, token_at, tokens_from}
-use Rattle.ecf_grammar.specs.Reading.Piece.{Blank, Comment, Lexeme}
-use Rattle.ecf_grammar.proofs.Lexemes.{same_kind, IsTokenText, token_text}
+use Rattle.ecf_grammar.specs.Reading.Piece.{Blank, Comment, TokenText}
+use Rattle.ecf_grammar.proofs.LexemeLaws.{same_kind, IsTokenText, token_text}
 
 -- ---- one piece
 
 pub piece_len : (p : Piece) → IsPiece p → 0 < length (bytes_of p)
 piece_len (Blank b) h = omega arith
 piece_len (Comment r) h = omega arith
-piece_len (Lexeme k bytes) h = let t = token_text k bytes h in omega (arith, ap length t.is)
+piece_len (TokenText k bytes) h = let t = token_text k bytes h in omega (arith, ap length t.is)
 
 blank_no_token : (b : ℕ) (bytes : List ℕ) → is_blank b ≡ true → IsTokenText bytes → b ∷ [] ≡ bytes → ⊥
 blank_no_token b bytes h t e = let is = t.is in let other = t.no_blank in absurd cc
@@ -22,13 +22,13 @@ comment_no_token r bytes t e = t.no_comment r (sym e)
 pub same_piece : (p q : Piece) → IsPiece p → IsPiece q → bytes_of p ≡ bytes_of q → p ≡ q
 same_piece (Blank b) (Blank d) h g e = let f : b ≡ d = cc in ap (λ x. Blank x) f
 same_piece (Blank b) (Comment r) h g e = absurd cc
-same_piece (Blank b) (Lexeme k bytes) h g e = absurd (blank_no_token b bytes h (token_text k bytes g) e)
+same_piece (Blank b) (TokenText k bytes) h g e = absurd (blank_no_token b bytes h (token_text k bytes g) e)
 same_piece (Comment r) (Blank b) h g e = absurd cc
 same_piece (Comment r) (Comment s) h g e = let f : r ≡ s = cc in ap (λ x. Comment x) f
-same_piece (Comment r) (Lexeme k bytes) h g e = absurd (comment_no_token r bytes (token_text k bytes g) e)
-same_piece (Lexeme k bytes) (Blank b) h g e = absurd (blank_no_token b bytes g (token_text k bytes h) (sym e))
-same_piece (Lexeme k bytes) (Comment r) h g e = absurd (comment_no_token r bytes (token_text k bytes h) (sym e))
-same_piece (Lexeme k bytes) (Lexeme j other) h g e =
+same_piece (Comment r) (TokenText k bytes) h g e = absurd (comment_no_token r bytes (token_text k bytes g) e)
+same_piece (TokenText k bytes) (Blank b) h g e = absurd (blank_no_token b bytes g (token_text k bytes h) (sym e))
+same_piece (TokenText k bytes) (Comment r) h g e = absurd (comment_no_token r bytes (token_text k bytes h) (sym e))
+same_piece (TokenText k bytes) (TokenText j other) h g e =
     let at : IsLexeme j bytes = subst (λ x. IsLexeme j x) (sym e) g in
     let is : k ≡ j = same_kind k j bytes h at in cc
 

@@ -1,15 +1,17 @@
 -- What lexemes begin with, and that their bytes tell their kind.
-use Rattle.std.proofs.Common.{◌≡◌, ◌≢◌, ℕ, ◌≤◌, ◌==◌, Bool, true, false, cond, ◌&&◌, List, [], ◌∷◌, length, Option, Some, None, refl, sym, ap, subst, ◌∙◌, arith}
+use Rattle.std.proofs.Common.{◌≡◌, ◌≢◌, ℕ, ◌==◌, Bool, true, false, cond, ◌&&◌, List, [], ◌∷◌, Option, Some, None, refl, sym, ap, subst, ◌∙◌, arith}
 use Rattle.std.specs.List.{list_all}
 use Rattle.std.specs.Char.{is_ascii_digit}
 use Rattle.std.proofs.lemmas.Bool.Decides.{nat_tests}
+use Rattle.ecf_decimal.specs.Decimal.{is_numeral}
 use Rattle.ecf_grammar.specs.declared.tokens.Kind.{Kind}
 use Rattle.ecf_grammar.specs.declared.tokens.Kind.TheVariants as kind
 use Rattle.ecf_grammar.specs.declared.tokens.Word.{Word}
 use Rattle.ecf_grammar.specs.declared.tokens.Word.TheVariants as word
 use Rattle.ecf_grammar.specs.declared.tokens.Sign.{Sign}
 use Rattle.ecf_grammar.specs.declared.tokens.Sign.TheVariants as sign
-use Rattle.ecf_grammar.specs.Spelling.{word_text, sign_text, is_name_start, is_blank, IsIdentifier, IsDigits, IsLexeme}
+use Rattle.ecf_grammar.specs.Spelling.{word_text, sign_text, is_name_start, is_blank, IsIdentifier, IsLexeme}
+use Rattle.ecf_grammar.specs.Spellings.{IsSignText, LexemesBeginApart}
 
 pub and_parts : (a b : Bool) → (a && b) ≡ true → (a ≡ true) × (b ≡ true)
 and_parts true b h = (refl, h)
@@ -112,17 +114,6 @@ word_identifier word.True = (refl, refl)
 word_identifier word.False = (refl, refl)
 word_identifier word.Try = (refl, refl)
 
--- a sign has one byte or two, the first of which begins nothing else, and it begins no comment
-pub record IsSignText (bytes : List ℕ) : Type 0 where
-  pub first : ℕ
-  pub more : List ℕ
-  pub is : bytes ≡ first ∷ more
-  pub no_name : is_name_start first ≡ false
-  pub no_digit : is_ascii_digit first ≡ false
-  pub no_blank : is_blank first ≡ false
-  pub no_comment : (remark : List ℕ) → bytes ≢ 47 ∷ 47 ∷ remark
-  pub short : length bytes ≤ 2
-
 one_byte : (b : ℕ) → is_name_start b ≡ false → is_ascii_digit b ≡ false → is_blank b ≡ false → IsSignText (b ∷ [])
 one_byte b name digit blank = record { first = b; more = []; is = refl; no_name = name; no_digit = digit; no_blank = blank; no_comment = λ r e. absurd cc; short = omega arith }
 
@@ -170,10 +161,10 @@ blank_or_digit b digit blank = grind (arith, nat_tests)
 
 -- ---- the bytes of a token tell its kind
 
-first_digit : (b : ℕ) (bs : List ℕ) → IsDigits (b ∷ bs) → is_ascii_digit b ≡ true
-first_digit b bs h = (and_parts (is_ascii_digit b) (list_all is_ascii_digit bs) h.digits).0
+first_digit : (b : ℕ) (bs : List ℕ) → is_numeral (b ∷ bs) ≡ true → is_ascii_digit b ≡ true
+first_digit b bs h = (and_parts (is_ascii_digit b) (list_all is_ascii_digit bs) h).0
 
-identifier_no_digits : (bytes : List ℕ) → IsIdentifier bytes → IsDigits bytes → ⊥
+identifier_no_digits : (bytes : List ℕ) → IsIdentifier bytes → is_numeral bytes ≡ true → ⊥
 identifier_no_digits [] h g = h
 identifier_no_digits (b ∷ bs) h g = digit_or_name b h.0 (first_digit b bs g)
 
@@ -181,8 +172,8 @@ identifier_no_sign : (bytes : List ℕ) → IsIdentifier bytes → IsSignText by
 identifier_no_sign [] h g = h
 identifier_no_sign (b ∷ bs) h g = let name = h.0 in let other = g.no_name in let is = g.is in absurd cc
 
-digits_no_sign : (bytes : List ℕ) → IsDigits bytes → IsSignText bytes → ⊥
-digits_no_sign [] h g = h.some refl
+digits_no_sign : (bytes : List ℕ) → is_numeral bytes ≡ true → IsSignText bytes → ⊥
+digits_no_sign [] h g = absurd cc
 digits_no_sign (b ∷ bs) h g = let digit = first_digit b bs h in let other = g.no_digit in let is = g.is in absurd cc
 
 pub sign_text_of : (s : Sign) (bytes : List ℕ) → bytes ≡ sign_text s → IsSignText bytes
@@ -233,8 +224,8 @@ identifier_text : (bytes : List ℕ) → IsIdentifier bytes → IsTokenText byte
 identifier_text [] h = absurd h
 identifier_text (b ∷ bs) h = record { first = b; more = bs; is = refl; no_blank = false_from (is_blank b) (blank_or_name b h.0); no_comment = λ r. slash_no_name r b bs h.0 }
 
-digits_text : (bytes : List ℕ) → IsDigits bytes → IsTokenText bytes
-digits_text [] h = absurd (h.some refl)
+digits_text : (bytes : List ℕ) → is_numeral bytes ≡ true → IsTokenText bytes
+digits_text [] h = absurd cc
 digits_text (b ∷ bs) h = let digit = first_digit b bs h in
     record { first = b; more = bs; is = refl; no_blank = false_from (is_blank b) (blank_or_digit b digit); no_comment = λ r. slash_no_digit r b bs digit }
 
@@ -246,3 +237,6 @@ token_text kind.Name bytes h = identifier_text bytes h.identifier
 token_text (kind.Number v) bytes h = digits_text bytes h.0
 token_text (kind.Word w) bytes h = identifier_text bytes (word_text_of w bytes h)
 token_text (kind.Sign s) bytes h = sign_token bytes (sign_text_of s bytes h)
+
+pub lexemes_begin_apart : LexemesBeginApart
+lexemes_begin_apart = record { word = word_identifier; sign = sign_shape }
