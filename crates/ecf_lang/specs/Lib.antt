@@ -1,4 +1,5 @@
 pub mod Store
+pub mod Signatures
 pub mod Fits
 pub mod Genesis
 pub mod Part
