@@ -1,28 +1,36 @@
--- The lines of a journal's entries, version 1.
-use Rattle.std.specs.Prelude.{◌≡◌, ◌==◌, ℕ, ◌+◌, Bool, false, List, [], ◌∷◌, ◌++◌, length, take, drop, count_by, slice_get, Option, codes, decimal}
+-- The lines of a journal's entries.
+use Rattle.std.specs.Prelude.{◌==◌, ℕ, ◌+◌, Bool, false, List, [], ◌∷◌, ◌++◌, length, take, drop, count_by, slice_get, Option, codes, decimal}
+use Rattle.std.specs.List.{flat_map}
 use Rattle.std.specs.Option.{option_map_or}
 use Rattle.ecf_lang.specs.declared.typed.Typed.{Typed}
 use Rattle.ecf_lang.specs.declared.tx.Tx.{Tx}
 use Rattle.ecf_lang.specs.declared.tx.TxCall.{TxCall}
 use Rattle.ecf_lang.specs.declared.receipt.Entry.{Entry}
 use Rattle.ecf_lang.specs.declared.receipt.Receipt.{Receipt}
-use Rattle.ecf_texts.specs.Words.{object_name, method_name, params_of, arguments_text}
+use Rattle.ecf_lang.specs.Signatures.{params_of}
+use Rattle.ecf_texts.specs.Words.{object_name, method_name, arguments_text}
 use Rattle.ecf_texts.specs.Receipts.{receipt_text}
 
--- a transaction has one call; this version has no text for more of them
-pub record OneCall (tx : Tx) : Type 0 where
-  pub one : length tx.calls ≡ 1
+-- the object and the method that a call names
+abbrev pub callee_text : Typed → TxCall → List ℕ
+callee_text typed call = object_name typed call.object ++ codes " " ++ method_name typed call.method
 
--- a call under a fuel limit
-abbrev pub call_text : Typed → ℕ → TxCall → List ℕ
-call_text typed limit call =
-    object_name typed call.object ++ codes " " ++ method_name typed call.method ++ codes " " ++ decimal limit
-    ++ arguments_text typed (params_of typed call.method) call.args
+-- a call's arguments, each after a space
+abbrev pub call_arguments_text : Typed → TxCall → List ℕ
+call_arguments_text typed call = arguments_text typed (params_of typed call.method) call.args
 
--- what a transaction asks for under its limit: its one call
+-- the first call of a transaction, with the transaction's fuel limit
+abbrev pub first_call_text : Typed → ℕ → TxCall → List ℕ
+first_call_text typed limit call = callee_text typed call ++ codes " " ++ decimal limit ++ call_arguments_text typed call
+
+-- a further call
+abbrev pub further_call_text : Typed → TxCall → List ℕ
+further_call_text typed call = codes " ; " ++ callee_text typed call ++ call_arguments_text typed call
+
+-- what a transaction asks for: its calls, in their order
 abbrev pub request_text : Typed → ℕ → List TxCall → List ℕ
 request_text typed limit [] = []
-request_text typed limit (call ∷ more) = call_text typed limit call
+request_text typed limit (call ∷ further) = first_call_text typed limit call ++ flat_map (further_call_text typed) further
 
 -- a line of the journal, for the entry at this place and the submitter's entry of this number, both from 1
 abbrev pub line_text : Typed → ℕ → ℕ → Tx → Receipt → List ℕ

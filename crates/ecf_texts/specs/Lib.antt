@@ -4,7 +4,3 @@ pub mod Entries
 pub mod Stops
 pub mod Cells
 pub mod Journal
-pub mod Line
-pub mod OneLine
-pub mod Spelled
-pub mod LineLaws

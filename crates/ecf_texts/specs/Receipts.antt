@@ -6,7 +6,7 @@ use Rattle.ecf_lang.specs.declared.run.Cause.TheVariants.{User, Overflow, DivZer
 use Rattle.ecf_lang.specs.declared.typed.Typed.{Typed}
 use Rattle.ecf_lang.specs.declared.receipt.Order.{Order}
 use Rattle.ecf_lang.specs.declared.receipt.Receipt.{Receipt}
-use Rattle.ecf_lang.specs.declared.receipt.Receipt.TheVariants.{Committed, Reverted, OutOfFuel, Vetoed}
+use Rattle.ecf_lang.specs.declared.receipt.Receipt.TheVariants.{Committed, Reverted, OutOfFuel, Vetoed, Barred}
 use Rattle.ecf_texts.specs.Words.{object_name}
 
 -- why a run reverted
@@ -35,3 +35,4 @@ receipt_text typed (OutOfFuel fuel) = codes "outoffuel fuel " ++ decimal fuel
 receipt_text typed (Vetoed object at cycle fuel) =
     codes "vetoed " ++ object_name typed object ++ codes " at " ++ decimal at
     ++ codes " cycle" ++ numbers_text cycle ++ codes " fuel " ++ decimal fuel
+receipt_text typed (Barred watch fuel) = codes "barred " ++ decimal watch ++ codes " fuel " ++ decimal fuel

@@ -6,7 +6,6 @@ use Rattle.ecf_lang.specs.declared.tree.Ty.{Ty}
 use Rattle.ecf_lang.specs.declared.tree.Ty.TheVariants.{Num, Flag, Addr}
 use Rattle.ecf_lang.specs.declared.typed.Typed.{Typed}
 use Rattle.ecf_lang.specs.declared.typed.TypedObject.{TypedObject}
-use Rattle.ecf_lang.specs.declared.typed.Signature.{Signature}
 
 -- the name of an object
 abbrev pub object_name : Typed → ℕ → List ℕ
@@ -26,10 +25,6 @@ abbrev pub value_word : Typed → Ty → ℕ → List ℕ
 value_word typed Num value = decimal value
 value_word typed Flag value = flag_word value
 value_word typed Addr value = object_name typed value
-
--- the types of a method's parameters
-abbrev pub params_of : Typed → ℕ → List Ty
-params_of typed method = option_map_or (λ (s : Signature). s.params) (slice_get typed.signatures method) []
 
 -- arguments by their parameters' types, each after a space
 abbrev pub arguments_text : Typed → List Ty → List ℕ → List ℕ

@@ -1,4 +1,2 @@
-//! The texts of the project, as definitions in `specs/` that contracts cite, and laws about them.
+//! The text of a journal, as definitions in `specs/` that contracts cite.
 #![tactic(auto)]
-
-pub mod line;

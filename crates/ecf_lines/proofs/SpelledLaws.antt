@@ -1,5 +1,5 @@
 -- What a line spells is what it says.
-use Rattle.std.proofs.Common.{◌≡◌, ◌≢◌, inl, inr, ◌≤◌, ◌<◌, ℕ, ◌-◌, ◌^◌, Bool, true, false, not, cond, ◌&&◌, ◌||◌, if◌then◌else◌, List, [], ◌∷◌, ◌++◌, Option, Some, None, Ok, Err, length, get_or, refl, sym, ap, subst, ◌∙◌, arith, ltb}
+use Rattle.std.proofs.Common.{◌≡◌, ◌≢◌, inl, inr, ◌≤◌, ◌<◌, ℕ, ◌-◌, ◌^◌, Bool, true, false, cond, ◌&&◌, ◌||◌, if◌then◌else◌, List, [], ◌∷◌, ◌++◌, Option, Some, None, Ok, Err, length, get_or, refl, sym, ap, subst, ◌∙◌, arith, ltb}
 use Rattle.std.specs.Prelude.{◌==◌, is_some, option_and_then, nat_le}
 use Rattle.std.specs.Bool.{MatchBool}
 use Rattle.std.specs.List.{list_any, onto_first, join_with_byte, position_or_len}
@@ -8,16 +8,18 @@ use Rattle.std.specs.Str.{bytes_eq}
 use Rattle.std.specs.Cmp.Lexicographic.{told_text}
 use Rattle.std.proofs.lemmas.Option.{slice_get-get_or, get_or_from_slice_get, slice_get_within}
 use Rattle.std.proofs.lemmas.List.Sums.{position_or_len_is}
+use Rattle.ecf_decimal.specs.Decimal.{is_numeral, number_value}
 use Rattle.ecf_lang.specs.declared.tree.Ty.{Ty}
 use Rattle.ecf_lang.specs.declared.tree.Ty.TheVariants.{Num, Flag, Addr}
 use Rattle.ecf_lang.specs.declared.typed.Typed.{Typed}
 use Rattle.ecf_lang.specs.declared.tx.Tx.{Tx}
 use Rattle.ecf_lang.specs.declared.tx.TxCall.{TxCall}
+use Rattle.ecf_lang.specs.declared.limits.TheConstants.{MAX_FUEL}
 use Rattle.ecf_lang.specs.declared.receipt.StopCause.TheVariants.{Arity, Arg}
 use Rattle.ecf_lang.specs.Fits.{method_at}
-use Rattle.ecf_texts.specs.Words.{params_of}
-use Rattle.ecf_texts.specs.Line.{Reading, ◌>>=◌, words, is_empty, is_skipped, is_numeral, number_value, number_within, number_named, object_names, object_named, method_named, value_of, values_of, arguments_of, tx_of_words, line_of}
-use Rattle.ecf_texts.specs.Spelled.{has_space, SpellsNumber, IsNamed, SpellsValue, SpellsValues, SpellsTx}
+use Rattle.ecf_lang.specs.Signatures.{params_of}
+use Rattle.ecf_lines.specs.Line.{Reading, ◌>>=◌, words, is_empty, is_skipped, number_within, number_named, object_names, object_named, method_named, value_of, values_of, arguments_of, tx_of_words, line_of}
+use Rattle.ecf_lines.specs.Spelled.{has_space, SpellsNumber, IsNamed, SpellsValue, SpellsValues, SpellsTx}
 
 -- two tests that both fail
 neither : (a b : Bool) → (a || b) ≡ false → (a ≡ false) × (b ≡ false)
@@ -109,20 +111,16 @@ module _ (typed : Typed) (submitter object method fuel : List ℕ) (args : List 
   abbrev all : List (List ℕ)
   all = submitter ∷ object ∷ method ∷ fuel ∷ args
 
-  whole : (from to name limit : ℕ) (values : List ℕ) → list_any is_empty all ≡ false → number_within 0 (2 ^ 32 - 1) submitter ≡ Some from → object_named typed object ≡ Some to → method_named typed to method ≡ Some name → number_within 1 1000000 fuel ≡ Some limit → arguments_of typed name args ≡ Ok values → tx_of_words typed all ≡ Ok (record { submitter = from; fuel = limit; calls = record { object = to; method = name; args = values } ∷ [] })
+  whole : (from to name limit : ℕ) (values : List ℕ) → list_any is_empty all ≡ false → number_within 0 (2 ^ 32 - 1) submitter ≡ Some from → object_named typed object ≡ Some to → method_named typed to method ≡ Some name → number_within 1 MAX_FUEL fuel ≡ Some limit → arguments_of typed name args ≡ Ok values → tx_of_words typed all ≡ Ok (record { submitter = from; fuel = limit; calls = record { object = to; method = name; args = values } ∷ [] })
   whole from to name limit values full from_is to_is name_is limit_is e = rw (full, from_is, to_is, name_is, limit_is, e) refl
 
 abbrev first_of : List (List ℕ) → List ℕ
 first_of [] = []
 first_of (word ∷ more) = word
 
-fails : (b : Bool) → (b && false) ≡ true → ⊥
-fails true e = cc
-fails false e = cc
-
 no_number : (parts : List (List ℕ)) → is_numeral (first_of (onto_first 35 parts)) ≡ true → ⊥
 no_number [] e = cc
-no_number (part ∷ parts) e = fails (not (length (35 ∷ part) == 0)) e
+no_number (part ∷ parts) e = cc
 
 -- a line whose first word is a number isn't skipped
 hash : (b : Bool) (x : ℕ) (xs : List ℕ) → (x == 35) ≡ b → is_numeral (first_of (words (x ∷ xs))) ≡ true → b ≡ false
@@ -146,7 +144,7 @@ spelled_is_said typed line tx s =
     let from_is = number_read 0 (2 ^ 32 - 1) s.submitter tx.submitter s.submitter_is (omega arith) (omega (arith, fits)) in
     let to_is = name_read (object_names typed) s.object s.call.object s.call_is.object_is in
     let name_is = method_read (number_named typed.names s.method) (λ name. is_some (method_at typed s.call.object name)) s.call.method (name_read typed.names s.method s.call.method s.call_is.method_is) s.call_is.has_method in
-    let limit_is = number_read 1 1000000 s.fuel tx.fuel s.fuel_is s.some_fuel s.fuel_fits in
+    let limit_is = number_read 1 MAX_FUEL s.fuel tx.fuel s.fuel_is s.some_fuel s.fuel_fits in
     let made = whole typed s.submitter s.object s.method s.fuel s.args tx.submitter s.call.object s.call.method tx.fuel s.call.args s.full from_is to_is name_is limit_is args_are in
     let calls = ap (λ (calls : List TxCall). let made : Reading Tx = Ok (record { submitter = tx.submitter; fuel = tx.fuel; calls = calls }) in made) (sym s.one_call) in
     let say : Reading Tx → Reading (Option Tx) = λ m. m >>= (λ tx. Ok (Some tx)) in

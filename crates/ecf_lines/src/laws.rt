@@ -1,6 +1,6 @@
 //! What holds of every line, whoever reads it.
 
-ghost use Rattle.ecf_texts.specs.LineLaws.{LinesFit, LinesCallOnce, OneLineFits, OneLineCallsOnce, SaidIsSpelled, SpelledIsSaid};
+ghost use Rattle.ecf_lines.specs.LineLaws.{LinesFit, LinesCallOnce, OneLineFits, OneLineCallsOnce, SaidIsSpelled, SpelledIsSaid};
 
 /// The transaction that a line says fits the contract: its object has the method, and its arguments and its fuel
 /// limit are right.

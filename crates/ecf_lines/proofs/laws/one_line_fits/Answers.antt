@@ -1,6 +1,6 @@
 use Rattle.std.specs.Str.Lines.{strip_carriage_return}
-use Rattle.ecf_texts.proofs.LinesFit.{lines_fit, lines_call_once}
-use Rattle.ecf_texts.proofs.line.one_line_fits.Goals as goal
+use Rattle.ecf_lines.proofs.FitLaws.{lines_fit, lines_call_once}
+use Rattle.ecf_lines.proofs.laws.one_line_fits.Goals as goal
 
 pub returns : goal.returns
 returns c = record {

@@ -8,18 +8,20 @@ use Rattle.std.specs.Cmp.Lexicographic.{same_text, other_text}
 use Rattle.std.proofs.lemmas.Option.{slice_get-get_or, get_or_from_slice_get}
 use Rattle.std.proofs.lemmas.List.Quantifiers.{position-Some}
 use Rattle.std.proofs.lemmas.List.Splits.{join_with_byte-slice_split}
+use Rattle.ecf_decimal.specs.Decimal.{is_numeral, number_value}
 use Rattle.ecf_lang.specs.declared.tree.Ty.{Ty}
 use Rattle.ecf_lang.specs.declared.tree.Ty.TheVariants.{Num, Flag, Addr}
 use Rattle.ecf_lang.specs.declared.typed.Typed.{Typed}
 use Rattle.ecf_lang.specs.declared.tx.Tx.{Tx}
 use Rattle.ecf_lang.specs.declared.tx.TxCall.{TxCall}
+use Rattle.ecf_lang.specs.declared.limits.TheConstants.{MAX_FUEL}
 use Rattle.ecf_lang.specs.declared.receipt.StopCause.TheVariants.{Arg}
 use Rattle.ecf_lang.specs.Fits.{method_at}
-use Rattle.ecf_texts.specs.Words.{params_of}
-use Rattle.ecf_texts.specs.Line.{words, is_numeral, number_value, number_within, number_named, object_names, value_of, values_of, tx_of_words, line_of}
-use Rattle.ecf_texts.specs.Spelled.{has_space, SpellsNumber, IsNamed, SpellsValue, SpellsValues, SpellsTx}
-use Rattle.ecf_texts.proofs.LineParts.{ok_or_ok, parts_of, words_say}
-use Rattle.ecf_texts.proofs.LinesFit.{in_range, both, there, as_many}
+use Rattle.ecf_lang.specs.Signatures.{params_of}
+use Rattle.ecf_lines.specs.Line.{words, number_within, number_named, object_names, value_of, values_of, tx_of_words, line_of}
+use Rattle.ecf_lines.specs.Spelled.{has_space, SpellsNumber, IsNamed, SpellsValue, SpellsValues, SpellsTx}
+use Rattle.ecf_lines.proofs.PartLaws.{ok_or_ok, parts_of, words_say}
+use Rattle.ecf_lines.proofs.FitLaws.{in_range, both, there, as_many}
 
 -- no word of a line has a space in it
 apart_words : (line : List ℕ) → list_any has_space (words line) ≡ false
@@ -76,7 +78,7 @@ words_spelled typed line (a ∷ b ∷ d ∷ f ∷ args) tx is e =
     let asked : TxCall = record { object = p.to; method = p.name; args = p.values } in
     let from = in_range 0 (2 ^ 32 - 1) a p.from p.from_is in
     let from_most = from.1 in
-    let limit = in_range 1 1000000 f p.limit p.limit_is in
+    let limit = in_range 1 MAX_FUEL f p.limit p.limit_is in
     let read = ok_or_ok (values_of typed (params_of typed p.name) args) Arg p.values (as_many (length args == length (params_of typed p.name)) (ok_or (values_of typed (params_of typed p.name) args) Arg) p.values p.values_are) in
     subst (λ t. SpellsTx typed line t) p.whole (record {
       submitter = a;
@@ -97,7 +99,7 @@ words_spelled typed line (a ∷ b ∷ d ∷ f ∷ args) tx is e =
         args_are = values_spelled typed (params_of typed p.name) args p.values read;
       };
       one_call = refl;
-      fuel_is = number_spelled 1 1000000 f p.limit p.limit_is;
+      fuel_is = number_spelled 1 MAX_FUEL f p.limit p.limit_is;
       some_fuel = limit.0;
       fuel_fits = limit.1;
     })

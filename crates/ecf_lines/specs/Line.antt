@@ -1,10 +1,10 @@
 -- What a line of a stream says: nothing where it is skipped, else a transaction, or the first cause why it is none.
 -- A transaction is spelled `submitter object method fuel arg ..`, with one space between words and none at the ends.
-use Rattle.std.specs.Prelude.{ℕ, ◌+◌, ◌-◌, ◌*◌, ◌^◌, ◌==◌, ◌≤◌, Bool, true, not, ◌&&◌, nat_le, if◌then◌else◌, List, [], ◌∷◌, length, map, fold, position, codes, Option, Some, None, is_some, option_and_then, Result, Ok, Err}
-use Rattle.std.specs.List.{list_all, list_any, slice_split}
+use Rattle.std.specs.Prelude.{ℕ, ◌-◌, ◌^◌, ◌==◌, ◌≤◌, Bool, true, ◌&&◌, nat_le, if◌then◌else◌, List, [], ◌∷◌, length, map, position, codes, Option, Some, None, is_some, option_and_then, Result, Ok, Err}
+use Rattle.std.specs.List.{list_any, slice_split}
 use Rattle.std.specs.Option.{option_map, ok_or}
 use Rattle.std.specs.Str.{bytes_eq}
-use Rattle.std.specs.Char.{is_ascii_digit}
+use Rattle.ecf_decimal.specs.Decimal.{is_numeral, number_value}
 use Rattle.ecf_lang.specs.declared.tree.Ty.{Ty}
 use Rattle.ecf_lang.specs.declared.tree.Ty.TheVariants.{Num, Flag, Addr}
 use Rattle.ecf_lang.specs.declared.typed.Typed.{Typed}
@@ -12,8 +12,9 @@ use Rattle.ecf_lang.specs.declared.typed.TypedObject.{TypedObject}
 use Rattle.ecf_lang.specs.declared.tx.Tx.{Tx}
 use Rattle.ecf_lang.specs.declared.receipt.StopCause.{StopCause}
 use Rattle.ecf_lang.specs.declared.receipt.StopCause.TheVariants.{Form, Object, Method, Fuel, Arity, Arg}
+use Rattle.ecf_lang.specs.declared.limits.TheConstants.{MAX_OBJECTS, MAX_FUEL}
 use Rattle.ecf_lang.specs.Fits.{method_at}
-use Rattle.ecf_texts.specs.Words.{params_of}
+use Rattle.ecf_lang.specs.Signatures.{params_of}
 
 -- a reading goes on with a value, or stops for a cause
 abbrev pub Reading : Type 0 → Type 0
@@ -31,14 +32,6 @@ words line = slice_split (λ byte. byte == 32) line
 -- a word of no bytes, as two spaces leave one between them
 abbrev pub is_empty : List ℕ → Bool
 is_empty word = length word == 0
-
--- one digit or more, and nothing else
-abbrev pub is_numeral : List ℕ → Bool
-is_numeral word = not (is_empty word) && list_all is_ascii_digit word
-
--- the value of decimal digits
-abbrev pub number_value : List ℕ → ℕ
-number_value digits = fold (λ value digit. 10 * value + (digit - 48)) 0 digits
 
 -- the number that a word spells, where it is one in this range
 abbrev pub number_within : ℕ → ℕ → List ℕ → Option ℕ
@@ -91,7 +84,7 @@ tx_of_words typed (submitter ∷ object ∷ method ∷ fuel ∷ args) =
     (if list_any is_empty (submitter ∷ object ∷ method ∷ fuel ∷ args) then Err Form else ok_or (number_within 0 (2 ^ 32 - 1) submitter) Form) >>= (λ from.
     ok_or (object_named typed object) Object >>= (λ to.
     ok_or (method_named typed to method) Method >>= (λ name.
-    ok_or (number_within 1 1000000 fuel) Fuel >>= (λ limit.
+    ok_or (number_within 1 MAX_FUEL fuel) Fuel >>= (λ limit.
     arguments_of typed name args >>= (λ values.
     Ok (record { submitter = from; fuel = limit; calls = record { object = to; method = name; args = values } ∷ [] }))))))
 tx_of_words typed few = Err Form
@@ -107,6 +100,6 @@ line_of typed line = if is_skipped line then Ok None else (tx_of_words typed (wo
 
 -- each object and each method name has a number that a transaction can hold, and each method name a signature
 pub record IsNumbered (typed : Typed) : Type 0 where
-  pub objects : length typed.objects ≤ 256
-  pub names : length typed.names ≤ 65536
+  pub objects : length typed.objects ≤ MAX_OBJECTS
+  pub names : length typed.names ≤ 2 ^ 16
   pub signatures : length typed.names ≤ length typed.signatures

@@ -6,6 +6,7 @@ use Rattle.std.specs.Str.{bytes_eq}
 use Rattle.std.proofs.lemmas.Option.{cond_some}
 use Rattle.std.proofs.lemmas.List.Elements.{All-cons, All-nil}
 use Rattle.std.proofs.lemmas.List.Quantifiers.{position-Some}
+use Rattle.ecf_decimal.specs.Decimal.{number_value, is_numeral}
 use Rattle.ecf_lang.specs.declared.tree.Ty.{Ty}
 use Rattle.ecf_lang.specs.declared.tree.Ty.TheVariants.{Num, Flag, Addr}
 use Rattle.ecf_lang.specs.declared.typed.Typed.{Typed}
@@ -13,12 +14,13 @@ use Rattle.ecf_lang.specs.declared.typed.TypedObject.{TypedObject}
 use Rattle.ecf_lang.specs.declared.typed.Signature.{Signature}
 use Rattle.ecf_lang.specs.declared.tx.Tx.{Tx}
 use Rattle.ecf_lang.specs.declared.tx.TxCall.{TxCall}
+use Rattle.ecf_lang.specs.declared.limits.TheConstants.{MAX_FUEL}
 use Rattle.ecf_lang.specs.declared.receipt.StopCause.TheVariants.{Arity, Arg}
 use Rattle.ecf_lang.specs.Fits.{Fits, CallFits, ArgumentsFit, IsValue, method_at}
-use Rattle.ecf_texts.specs.Words.{params_of}
-use Rattle.ecf_texts.specs.Line.{Reading, IsNumbered, words, number_value, number_within, number_named, object_names, object_named, method_named, value_of, values_of, tx_of_words, is_numeral}
-use Rattle.ecf_texts.specs.LineLaws.{LinesFit, LinesCallOnce}
-use Rattle.ecf_texts.proofs.LineParts.{ok_or_ok, parts_of, words_say}
+use Rattle.ecf_lang.specs.Signatures.{params_of}
+use Rattle.ecf_lines.specs.Line.{Reading, IsNumbered, words, number_within, number_named, object_names, object_named, method_named, value_of, values_of, tx_of_words}
+use Rattle.ecf_lines.specs.LineLaws.{LinesFit, LinesCallOnce}
+use Rattle.ecf_lines.proofs.PartLaws.{ok_or_ok, parts_of, words_say}
 
 -- a number that was read is in its range
 pub in_range : (least most : ℕ) (word : List ℕ) (n : ℕ) → number_within least most word ≡ Some n → (least ≤ n) × (n ≤ most)
@@ -98,7 +100,7 @@ fits_words typed (a ∷ b ∷ d ∷ f ∷ args) tx numbered e =
     let signatures = numbered.signatures in
     let read = ok_or_ok (values_of typed (params_of typed p.name) args) Arg p.values (as_many (length args == length (params_of typed p.name)) (ok_or (values_of typed (params_of typed p.name) args) Arg) p.values p.values_are) in
     let fit = are_values typed (params_of typed p.name) args p.values read in
-    let limit = in_range 1 1000000 f p.limit p.limit_is in
+    let limit = in_range 1 MAX_FUEL f p.limit p.limit_is in
     let asked : TxCall = record { object = p.to; method = p.name; args = p.values } in
     let call : CallFits typed asked = record {
       method = m.0;

@@ -1,14 +1,16 @@
 -- How a line spells a transaction, said of the words and not of their reading.
 use Rattle.std.specs.Prelude.{◌≡◌, ◌≢◌, ◌⊎◌, ◌==◌, ◌<◌, ◌≤◌, ◌^◌, ℕ, Bool, true, false, List, [], ◌∷◌, slice_get, Some, IsSome, codes, ⊤}
 use Rattle.std.specs.List.{list_any, join_with_byte}
+use Rattle.ecf_decimal.specs.Decimal.{is_numeral, number_value}
 use Rattle.ecf_lang.specs.declared.tree.Ty.{Ty}
 use Rattle.ecf_lang.specs.declared.tree.Ty.TheVariants.{Num, Flag, Addr}
 use Rattle.ecf_lang.specs.declared.typed.Typed.{Typed}
 use Rattle.ecf_lang.specs.declared.tx.Tx.{Tx}
 use Rattle.ecf_lang.specs.declared.tx.TxCall.{TxCall}
+use Rattle.ecf_lang.specs.declared.limits.TheConstants.{MAX_FUEL}
 use Rattle.ecf_lang.specs.Fits.{method_at}
-use Rattle.ecf_texts.specs.Words.{params_of}
-use Rattle.ecf_texts.specs.Line.{is_empty, is_numeral, number_value, object_names}
+use Rattle.ecf_lang.specs.Signatures.{params_of}
+use Rattle.ecf_lines.specs.Line.{is_empty, object_names}
 
 -- there is a space in the word
 abbrev pub has_space : List ℕ → Bool
@@ -60,4 +62,4 @@ pub record SpellsTx (typed : Typed) (line : List ℕ) (tx : Tx) : Type 0 where
   pub one_call : tx.calls ≡ call ∷ []
   pub fuel_is : SpellsNumber fuel tx.fuel
   pub some_fuel : 1 ≤ tx.fuel
-  pub fuel_fits : tx.fuel ≤ 1000000
+  pub fuel_fits : tx.fuel ≤ MAX_FUEL

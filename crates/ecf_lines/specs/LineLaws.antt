@@ -3,9 +3,9 @@ use Rattle.std.specs.Prelude.{◌≡◌, ℕ, List, length, Some, Ok}
 use Rattle.ecf_lang.specs.declared.typed.Typed.{Typed}
 use Rattle.ecf_lang.specs.declared.tx.Tx.{Tx}
 use Rattle.ecf_lang.specs.Fits.{Fits}
-use Rattle.ecf_texts.specs.Line.{line_of, IsNumbered}
-use Rattle.ecf_texts.specs.OneLine.{IsOneLine}
-use Rattle.ecf_texts.specs.Spelled.{SpellsTx}
+use Rattle.ecf_lines.specs.Line.{line_of, IsNumbered}
+use Rattle.ecf_lines.specs.OneLine.{IsOneLine}
+use Rattle.ecf_lines.specs.Spelled.{SpellsTx}
 
 -- the transaction that a line says fits the contract
 abbrev pub LinesFit : Type 0

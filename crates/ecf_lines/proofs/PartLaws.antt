@@ -4,9 +4,10 @@ use Rattle.std.specs.Option.{ok_or}
 use Rattle.std.specs.List.{list_any}
 use Rattle.ecf_lang.specs.declared.typed.Typed.{Typed}
 use Rattle.ecf_lang.specs.declared.tx.Tx.{Tx}
+use Rattle.ecf_lang.specs.declared.limits.TheConstants.{MAX_FUEL}
 use Rattle.ecf_lang.specs.declared.receipt.StopCause.{StopCause}
 use Rattle.ecf_lang.specs.declared.receipt.StopCause.TheVariants.{Form, Object, Method, Fuel}
-use Rattle.ecf_texts.specs.Line.{Reading, ◌>>=◌, words, is_empty, is_skipped, number_within, object_named, method_named, arguments_of, tx_of_words, line_of}
+use Rattle.ecf_lines.specs.Line.{Reading, ◌>>=◌, words, is_empty, is_skipped, number_within, object_named, method_named, arguments_of, tx_of_words, line_of}
 
 pub bind_ok : {A B : Type 0} (m : Reading A) (f : A → Reading B) (y : B) → (m >>= f) ≡ Ok y → (x : A) × (m ≡ Ok x) × (f x ≡ Ok y)
 bind_ok (Ok x) f y e = (x, refl, e)
@@ -31,7 +32,7 @@ module _ (typed : Typed) (submitter object method fuel : List ℕ) (args : List 
   after_fuel from to name limit = arguments_of typed name args >>= (λ values. Ok (made from to name limit values))
 
   abbrev after_method : ℕ → ℕ → ℕ → Reading Tx
-  after_method from to name = ok_or (number_within 1 1000000 fuel) Fuel >>= after_fuel from to name
+  after_method from to name = ok_or (number_within 1 MAX_FUEL fuel) Fuel >>= after_fuel from to name
 
   abbrev after_object : ℕ → ℕ → Reading Tx
   after_object from to = ok_or (method_named typed to method) Method >>= after_method from to
@@ -53,7 +54,7 @@ module _ (typed : Typed) (submitter object method fuel : List ℕ) (args : List 
     pub from_is : number_within 0 (2 ^ 32 - 1) submitter ≡ Some from
     pub to_is : object_named typed object ≡ Some to
     pub name_is : method_named typed to method ≡ Some name
-    pub limit_is : number_within 1 1000000 fuel ≡ Some limit
+    pub limit_is : number_within 1 MAX_FUEL fuel ≡ Some limit
     pub values_are : arguments_of typed name args ≡ Ok values
     pub whole : made from to name limit values ≡ tx
 
@@ -62,7 +63,7 @@ module _ (typed : Typed) (submitter object method fuel : List ℕ) (args : List 
       let a = bind_ok form after_form tx e in
       let b = bind_ok (ok_or (object_named typed object) Object) (after_object a.0) tx a.2 in
       let d = bind_ok (ok_or (method_named typed b.0 method) Method) (after_method a.0 b.0) tx b.2 in
-      let f = bind_ok (ok_or (number_within 1 1000000 fuel) Fuel) (after_fuel a.0 b.0 d.0) tx d.2 in
+      let f = bind_ok (ok_or (number_within 1 MAX_FUEL fuel) Fuel) (after_fuel a.0 b.0 d.0) tx d.2 in
       let g = bind_ok (arguments_of typed d.0 args) (λ values. Ok (made a.0 b.0 d.0 f.0 values)) tx f.2 in
       let h = if_err (list_any is_empty all) (ok_or (number_within 0 (2 ^ 32 - 1) submitter) Form) Form a.0 a.1 in
       record {

@@ -1,0 +1,4 @@
+pub mod PartLaws
+pub mod FitLaws
+pub mod SaidLaws
+pub mod SpelledLaws

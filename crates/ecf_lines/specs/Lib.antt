@@ -1,0 +1,4 @@
+pub mod Line
+pub mod OneLine
+pub mod Spelled
+pub mod LineLaws

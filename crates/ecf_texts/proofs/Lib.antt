@@ -1,4 +1,0 @@
-pub mod LineParts
-pub mod LinesFit
-pub mod SpelledLaw
-pub mod SpelledRead
