@@ -4,14 +4,15 @@ use Rattle.std.proofs.lemmas.Bool.{both_ways, cases_Bool, cases_eq, eqb-true, eq
 use Rattle.std.proofs.lemmas.List.{get_or_append_left, get_or_at}
 use Rattle.ecf_lang.specs.declared.run.Step.{Step}
 use Rattle.ecf_verdicts.specs.Before.{before}
-use Rattle.ecf_verdicts.specs.Cycles.{least_before, is_among, up_to, from, until, least, begun_at_least, walk, cycle_in, cycle}
+use Rattle.ecf_verdicts.specs.Cycles.{least_before, is_among, up_to, from, until, minimum, rotation_to_minimum, walk, cycle_in, cycle}
 use Rattle.ecf_verdicts.specs.Laws.{IsCycle, CycleNamed, MovesSuffice}
 use Rattle.ecf_verdicts.specs.Placing.{without, placing}
-use Rattle.ecf_verdicts.proofs.Conflict.{before_self}
-use Rattle.ecf_verdicts.proofs.FreePlaced.{find_some, find_none, cases_next, free_from_placed}
-use Rattle.ecf_verdicts.proofs.Lists.{Each, In, Pairs, Each_from, Each_at, Each_weaker, Pairs_at, All_from_Each, Has_from_any, any_from_Has, Has_weaker}
-use Rattle.ecf_verdicts.proofs.Members.{In_without_from, length-without}
-use Rattle.ecf_verdicts.proofs.PlaceLaws.{Stuck, rest_stuck}
+use Rattle.ecf_verdicts.specs.BeforeLemmas.{before_self}
+use Rattle.ecf_verdicts.proofs.FreeLaws.{free_from_placed}
+use Rattle.ecf_verdicts.specs.ListLemmas.{Each, In, Pairs, Each_from, Each_at, Each_weaker, Pairs_at, All_from_Each, Has_from_any, any_from_Has, Has_weaker, find_some, find_none, option_cases}
+use Rattle.ecf_verdicts.proofs.MemberLaws.{length-without}
+use Rattle.ecf_verdicts.specs.PlacingLemmas.{In_without_from}
+use Rattle.ecf_verdicts.proofs.PlacingLaws.{Stuck, rest_stuck}
 
 -- each is before the next
 abbrev Chain : List Step → List ℕ → Type 0
@@ -121,7 +122,7 @@ walk_ends t rest n present earlier i e f = rw (e, walk, f, walk) refl
 
 next_back : (t : List Step) (rest : List ℕ) → Stuck t rest → (present : ℕ) → In present rest → (i : ℕ) × (least_before t rest present ≡ Some i) × In i rest × (before t i present ≡ true)
 unfolding least_before
-next_back t rest s present h = elim (cases_next (find (λ i. before t i present) rest)) [
+next_back t rest s present h = elim (option_cases (find (λ i. before t i present) rest)) [
   | inl none ↦ (let r = s present h in absurd (both_ways _ (Each_at (λ i. before t i present ≡ false) rest r.0 (find_none (λ i. before t i present) rest none) r.1) r.2))
   | inr some ↦ (let r = find_some (λ i. before t i present) rest some.0 some.1 in (some.0, some.1, r.0, r.1))
 ]
@@ -195,16 +196,16 @@ cut m (x ∷ xs) h = go (cases_eq m x) (cut m xs)
         let r = deep inside in
         (r.0, rw (ne_eqb m x n) r.1, rw (ne_eqb m x n) (ap (λ l. x ∷ l) r.2))
 
-least_in : (x : ℕ) (xs : List ℕ) → In (least x xs) (x ∷ xs)
-unfolding least
+least_in : (x : ℕ) (xs : List ℕ) → In (minimum x xs) (x ∷ xs)
+unfolding minimum
 least_in x [] = inl refl
-least_in x (y ∷ ys) = elim (cases_min x (least y ys)) [ inl e ↦ inl e | inr e ↦ inr (subst (λ w. In w (y ∷ ys)) (sym e) (least_in y ys)) ]
+least_in x (y ∷ ys) = elim (cases_min x (minimum y ys)) [ inl e ↦ inl e | inr e ↦ inr (subst (λ w. In w (y ∷ ys)) (sym e) (least_in y ys)) ]
   where
     cases_min : (a b : ℕ) → (min a b ≡ a) ⊎ (min a b ≡ b)
     cases_min a b = grind arith
 
-least_low : (x : ℕ) (xs : List ℕ) → Each (λ y. least x xs ≤ y) (x ∷ xs)
-unfolding least
+least_low : (x : ℕ) (xs : List ℕ) → Each (λ y. minimum x xs ≤ y) (x ∷ xs)
+unfolding minimum
 least_low x [] = (omega arith, tt)
 least_low x (y ∷ ys) = (omega arith, Each_weaker _ _ (y ∷ ys) (λ z h. omega (arith, h)) (least_low y ys))
 
@@ -213,11 +214,11 @@ record Begun (t : List Step) (c : List ℕ) : Type 0 where
   walked : Walked t c
   lowest : Each (λ i. get_or c 0 0 ≤ i) c
 
-begun : (t : List Step) (c : List ℕ) → Walked t c → Begun t (begun_at_least c)
-unfolding begun_at_least
+begun : (t : List Step) (c : List ℕ) → Walked t c → Begun t (rotation_to_minimum c)
+unfolding rotation_to_minimum
 begun t [] w = absurd (omega (arith, w.several))
 begun t (x ∷ xs) w =
-    let m = least x xs in
+    let m = minimum x xs in
     let r = cut m (x ∷ xs) (least_in x xs) in
     let front = until m (x ∷ xs) in
     let back = r.0 in

@@ -1,5 +1,5 @@
 -- Legal journals and their first parts.
-use Rattle.std.proofs.Common.{◌≡◌, ℕ, suc, zero, ◌+◌, ◌<◌, ◌≤◌, ◌≢◌, Bool, true, false, cond, ◌==◌, List, [], ◌∷◌, ◌++◌, length, take, drop, get_or, IsPermutation, take-append-drop, inl, inr, refl, sym, ap, ◌∙◌, subst, arith, filter_map, slice_get, Some, add-one}
+use Rattle.std.proofs.Common.{◌≡◌, ℕ, suc, zero, ◌+◌, ◌<◌, ◌≤◌, ◌≢◌, Bool, true, false, cond, ◌==◌, List, [], ◌∷◌, ◌++◌, length, take, drop, IsPermutation, take-append-drop, inl, inr, refl, sym, ap, ◌∙◌, subst, arith, filter_map, slice_get, Some, add-one}
 use Rattle.std.specs.List.{range_with_len, cons_option}
 use Rattle.std.proofs.lemmas.Bool.{cases_eq, eqb-true, eq-eqb}
 use Rattle.std.proofs.lemmas.List.{take_at}
@@ -8,8 +8,8 @@ use Rattle.std.proofs.lemmas.List.Sorted.{Contains-permutation, IsPermutation-re
 use Rattle.ecf_lang.specs.declared.tx.Tx.{Tx}
 use Rattle.ecf_verdicts.specs.Journals.{along, places, submitter_at, of_submitter}
 use Rattle.ecf_verdicts.specs.SerialLaws.{FirstPartsLegal, LegalWhenWhole, AlongPlaces, AlongEach}
-use Rattle.ecf_verdicts.proofs.Lists.{Each, In, Pairs, Each_from, Each_at, Each_weaker, Each_from_all, All_from_Each, Pairs_at, In_filter, In_filter_from, Contains_from_In, In_from_Contains}
-use Rattle.ecf_verdicts.proofs.Rising.{Rising, filter_rises}
+use Rattle.ecf_verdicts.specs.ListLemmas.{Each, In, Pairs, Each_from, Each_at, Each_weaker, Each_from_all, All_from_Each, Pairs_at, Pairs_from_at, In_filter, In_filter_from, Contains_from_In, In_from_Contains}
+use Rattle.ecf_verdicts.specs.RisingLemmas.{Rising, filter_rises}
 
 -- the range
 range_low : (a n x : ℕ) → In x (range_with_len a n) → a ≤ x
@@ -52,10 +52,6 @@ same_rising (x ∷ xs) (y ∷ ys) r s f g =
     (λ z h. elim (g z (inr h)) [ inl e ↦ absurd (omega (arith, Each_at (λ w. y < w) ys z s.0 h, e, same)) | inr k ↦ k ]) in
     ap (λ w. w ∷ xs) same ∙ ap (λ l. y ∷ l) rest
 
-pairs_from_at : (R : ℕ → ℕ → Type 0) (xs : List ℕ) → ((i j d : ℕ) → i < j → j < length xs → R (get_or xs i d) (get_or xs j d)) → Pairs R xs
-pairs_from_at R [] h = tt
-pairs_from_at R (x ∷ xs) h = (Each_from (R x) xs (λ y i. (let c = Contains_from_In xs y i in subst (λ z. R x z) c.2 (h 0 (suc c.0) y (omega arith) (omega (arith, c.1))))), pairs_from_at R xs (λ i j d a b. h (suc i) (suc j) d (omega arith) (omega arith)))
-
 of_rises : (txs : List Tx) (s : ℕ) (js : List ℕ) → Pairs (λ p q. submitter_at txs p ≡ submitter_at txs q → p < q) js → Rising (of_submitter txs s js)
 of_rises txs s [] h = tt
 of_rises txs s (j ∷ js) h = go (submitter_at txs j == s) refl (of_rises txs s js h.1)
@@ -86,7 +82,7 @@ first_parts_legal txs journal legal n = record {
 
     whole : (s : ℕ) → of_submitter txs s journal ≡ of_submitter txs s (places txs)
     whole s = same_rising (of_submitter txs s journal) (of_submitter txs s (places txs))
-        (of_rises txs s journal (pairs_from_at _ journal legal.in_turn))
+        (of_rises txs s journal (Pairs_from_at _ journal legal.submitters_in_order))
         (filter_rises (λ p. submitter_at txs p == s) (places txs) (range_rises 0 (length txs)))
         (λ p i. (let r = In_filter (λ p. submitter_at txs p == s) journal p i in In_filter_from (λ p. submitter_at txs p == s) (places txs) p (from_journal p r.0) r.1))
         (λ p i. (let r = In_filter (λ p. submitter_at txs p == s) (places txs) p i in In_filter_from (λ p. submitter_at txs p == s) journal p (to_journal p r.0) r.1))
@@ -157,7 +153,7 @@ legal_when_whole txs journal so_far long =
     let known = Each_from_all (λ p. p < length txs) journal so_far.known in
     record {
       each_once = IsPermutation-sym journal (places txs) (permuted journal (places txs) (distinct_turns txs journal turns) (Each_weaker _ _ journal (λ p l. in_range 0 (length txs) p (omega arith) (omega arith)) known) (long ∙ sym (length_range 0 (length txs))));
-      in_turn = Pairs_at (λ p q. submitter_at txs p ≡ submitter_at txs q → p < q) journal turns;
+      submitters_in_order = Pairs_at (λ p q. submitter_at txs p ≡ submitter_at txs q → p < q) journal turns;
     }
 
 -- the transactions at places

@@ -5,30 +5,30 @@ use Rattle.ecf_lang.specs.declared.run.Step.{Step}
 use Rattle.ecf_verdicts.specs.Before.{before}
 use Rattle.ecf_verdicts.specs.Cycles.{least_before}
 use Rattle.ecf_verdicts.specs.Laws.{RestRises, NextIsLeast, StepIsLeast}
-use Rattle.ecf_verdicts.specs.Placing.{waits, next_placed, without, place, placing}
+use Rattle.ecf_verdicts.specs.Placing.{waits, next_placed, without, placing_from, placing}
 use Rattle.ecf_verdicts.specs.Traces.{members}
-use Rattle.ecf_verdicts.proofs.FreePlaced.{find_some, next_some, cases_next}
-use Rattle.ecf_verdicts.proofs.Lists.{In, Has_in, Has_from_any, Contains_from_In, In_from_Contains}
-use Rattle.ecf_verdicts.proofs.Place.{place_none, place_some}
-use Rattle.ecf_verdicts.proofs.Rising.{Rising, Rising_members, increasing, rising_from, filter_rises}
+use Rattle.ecf_verdicts.specs.ListLemmas.{In, Has_in, Has_from_any, Contains_from_In, In_from_Contains, find_some, option_cases}
+use Rattle.ecf_verdicts.specs.PlacingLemmas.{next_some, placing_none, placing_some}
+use Rattle.ecf_verdicts.specs.RisingLemmas.{Rising, increasing_from, rising_from, filter_rises}
+use Rattle.ecf_verdicts.proofs.MemberLaws.{Rising_members}
 use Rattle.ecf_verdicts.proofs.VerdictLaws.{find_least}
 
 without_rises : (j : ℕ) (xs : List ℕ) → Rising xs → Rising (without j xs)
 unfolding without
 without_rises j xs r = filter_rises _ xs r
 
-rest_in_order : (t : List Step) (n : ℕ) (u : List ℕ) → Rising u → Rising (place t n u).rest
-unfolding place
+rest_in_order : (t : List Step) (n : ℕ) (u : List ℕ) → Rising u → Rising (placing_from t n u).rest
+unfolding placing_from
 rest_in_order t zero u r = r
-rest_in_order t (suc n) u r = go (cases_next (next_placed t u)) (λ m. rest_in_order t n (without m u) (without_rises m u r))
+rest_in_order t (suc n) u r = go (option_cases (next_placed t u)) (λ m. rest_in_order t n (without m u) (without_rises m u r))
   where
-    go : (next_placed t u ≡ None) ⊎ ((m : ℕ) × (next_placed t u ≡ Some m)) → ((m : ℕ) → Rising (place t n (without m u)).rest) → Rising (place t (suc n) u).rest
-    go (inl none) deep = subst (λ p. Rising p.rest) (sym (place_none t n u none)) r
-    go (inr some) deep = subst (λ p. Rising p.rest) (sym (place_some t n u some.0 some.1)) (deep some.0)
+    go : (next_placed t u ≡ None) ⊎ ((m : ℕ) × (next_placed t u ≡ Some m)) → ((m : ℕ) → Rising (placing_from t n (without m u)).rest) → Rising (placing_from t (suc n) u).rest
+    go (inl none) deep = subst (λ p. Rising p.rest) (sym (placing_none t n u none)) r
+    go (inr some) deep = subst (λ p. Rising p.rest) (sym (placing_some t n u some.0 some.1)) (deep some.0)
 
 pub rest_rises : RestRises
 unfolding placing
-rest_rises t = increasing _ (rest_in_order t (length (members t)) (members t) (Rising_members t))
+rest_rises t = increasing_from _ (rest_in_order t (length (members t)) (members t) (Rising_members t))
 
 waiting : (t : List Step) (u : List ℕ) (j k : ℕ) → Rising u → next_placed t u ≡ Some j → In k u → k < j → (i : ℕ) × In i u × (before t i k ≡ true)
 unfolding next_placed waits

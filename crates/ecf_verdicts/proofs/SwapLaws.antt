@@ -1,19 +1,19 @@
 -- What legal swaps keep, and that they can be undone.
-use Rattle.std.proofs.Common.{◌≡◌, ℕ, suc, zero, Bool, true, false, cond, not, ◌&&◌, ◌==◌, eqb, List, [], ◌∷◌, ◌++◌, map, take, filter, IsPermutation, Some, inl, inr, refl, sym, ap, ◌∙◌}
+use Rattle.std.proofs.Common.{◌≡◌, ℕ, suc, zero, Bool, true, false, cond, not, ◌&&◌, ◌==◌, List, [], ◌∷◌, ◌++◌, map, take, filter, IsPermutation, Some, inl, inr, refl, sym, ap, ◌∙◌}
 use Rattle.ecf_lang.specs.declared.cell.Cell.{Cell}
 use Rattle.ecf_verdicts.specs.Conflicts.{conflicts, same_cell}
 use Rattle.ecf_verdicts.specs.Laws.{SwapsKeepWrites}
-use Rattle.ecf_verdicts.proofs.Swapped.{no_conflict}
-use Rattle.std.proofs.lemmas.Bool.{both_ways, eqb-true, eq-eqb, ne_eqb, and_parts, and_from, or_left, not-true}
+use Rattle.std.proofs.lemmas.Bool.{both_ways, eqb-true, eq-eqb, ne_eqb, and_parts, and_from, or_left}
 use Rattle.std.proofs.lemmas.List.Sorted.{IsPermutation-refl, IsPermutation-trans, IsPermutation-cons, IsPermutation-middle}
 use Rattle.ecf_lang.specs.declared.run.Step.{Step}
 use Rattle.ecf_verdicts.specs.Laws.{SwapsPermute, SwapsKeepInvocations, SwapsKeepBefore, SwapsUndone, FirstPartsFree}
 use Rattle.ecf_verdicts.specs.Swaps.{may_swap, swaps}
-use Rattle.ecf_verdicts.proofs.Conflict.{IsBefore, IsBefore_from, before_from}
-use Rattle.ecf_verdicts.proofs.FreePlaced.{ordered_from_free, placed_from_ordered, free_from_placed}
-use Rattle.ecf_verdicts.proofs.Lists.{Has}
-use Rattle.ecf_verdicts.proofs.Sorting.{swaps_here, swaps_there, swaps_append}
-use Rattle.ecf_verdicts.proofs.Swapped.{swaps_keep, swaps_alike, conflicts_sym, eqb_sym}
+use Rattle.ecf_verdicts.proofs.AlikeLaws.{swaps_alike}
+use Rattle.ecf_verdicts.specs.BeforeLemmas.{IsBefore, IsBefore_from, before_from}
+use Rattle.ecf_verdicts.proofs.FreeLaws.{rank_from_free, free_from_rank}
+use Rattle.ecf_verdicts.specs.ListLemmas.{Has}
+use Rattle.ecf_verdicts.proofs.SortingLaws.{swaps_here, swaps_there, swaps_append}
+use Rattle.ecf_verdicts.specs.SwapLemmas.{swaps_keep, no_conflict, other_inv, same_cell_parts, may_swap_sym}
 
 pub swaps_permute : SwapsPermute
 swaps_permute t places u e = swaps_keep (λ t u. IsPermutation t u)
@@ -22,10 +22,6 @@ swaps_permute t places u e = swaps_keep (λ t u. IsPermutation t u)
     (λ t. IsPermutation-refl t)
     (λ t u v h k. IsPermutation-trans t u v h k)
     places t u e
-
-pub other_inv : (a b : Step) → may_swap a b ≡ true → a.inv ≡ b.inv → ⊥
-unfolding may_swap
-other_inv a b e same = both_ways (eqb a.inv b.inv) (not-true _ (and_parts _ _ e).0) (eq-eqb a.inv b.inv same)
 
 filter_here : (a b : Step) (rest : List Step) (i : ℕ) (x y : Bool) → (a.inv == i) ≡ x → (b.inv == i) ≡ y → may_swap a b ≡ true → filter (λ (s : Step). s.inv == i) (b ∷ a ∷ rest) ≡ filter (λ (s : Step). s.inv == i) (a ∷ b ∷ rest)
 filter_here a b rest i true true e f m = absurd (other_inv a b m (eqb-true _ _ e ∙ sym (eqb-true _ _ f)))
@@ -39,10 +35,6 @@ swaps_keep_invocations t places u e i = swaps_keep (λ t u. filter (λ (s : Step
     (λ t. refl)
     (λ t u v h k. k ∙ h)
     places t u e
-
-pub same_cell_parts : (a b : Cell) → same_cell a b ≡ true → (a.object ≡ b.object) × (a.field ≡ b.field) × (a.key ≡ b.key)
-unfolding same_cell
-same_cell_parts a b e = let p = and_parts _ _ e in let q = and_parts _ _ p.1 in (eqb-true _ _ p.0, eqb-true _ _ q.0, eqb-true _ _ q.1)
 
 same_cell_both : (a b c : Cell) → same_cell a c ≡ true → same_cell b c ≡ true → same_cell a b ≡ true
 unfolding same_cell
@@ -76,10 +68,6 @@ swaps_keep_writes t places u e c = swaps_keep (λ t u. filter (λ (s : Step). s.
 pub swaps_keep_before : SwapsKeepBefore
 swaps_keep_before t places u e i j = sym ((swaps_alike places t u e).1 i j)
 
-pub may_swap_sym : (a b : Step) → may_swap a b ≡ may_swap b a
-unfolding may_swap
-may_swap_sym a b = rw (eqb_sym a.inv b.inv, conflicts_sym a b) refl
-
 undone_here : (a b : Step) (rest : List Step) → may_swap a b ≡ true → swaps (b ∷ a ∷ rest) (zero ∷ []) ≡ Some (a ∷ b ∷ rest)
 unfolding swaps
 undone_here a b rest e = swaps_here b a rest [] (sym (may_swap_sym a b) ∙ e)
@@ -110,5 +98,5 @@ IsBefore_take (suc n) (s ∷ t) i j (inr h) = inr (IsBefore_take n t i j h)
 
 pub first_parts_free : FirstPartsFree
 first_parts_free t f n =
-    let o = ordered_from_free t f in
-    free_from_placed (take n t) (placed_from_ordered (take n t) (record { order = o.order; keeps = λ i j b. o.keeps i j (before_from t i j (IsBefore_take n t i j (IsBefore_from (take n t) i j b))) }))
+    let o = rank_from_free t f in
+    free_from_rank (take n t) o.0 (λ i j b. o.1 i j (before_from t i j (IsBefore_take n t i j (IsBefore_from (take n t) i j b))))

@@ -1,35 +1,34 @@
 -- What a veto and an approval say of the traces.
 use Rattle.std.proofs.Common.{◌≡◌, ℕ, ◌<◌, ◌≤◌, Bool, true, false, not, List, [], ◌∷◌, map, length, find, Some, None, ◌⊎◌, inl, inr, refl, sym, ap, ◌∙◌, subst, arith}
 use Rattle.std.proofs.lemmas.Bool.{cases_Bool, cases_eq, cases_lt, ne_eqb, lt-ltb, le-ltb, not-true, not-false}
+use Rattle.std.proofs.lemmas.Option.{same_Some}
 use Rattle.ecf_lang.specs.declared.receipt.Order.{Order}
 use Rattle.ecf_lang.specs.declared.run.Step.{Step}
 use Rattle.ecf_verdicts.specs.Cycles.{is_placed, at, cycle}
 use Rattle.ecf_verdicts.specs.Free.{Free}
 use Rattle.ecf_verdicts.specs.Laws.{IsShortest, IsCycle, IsVeto, ListsOrders, VetoesLeast, VetoesExplain, ApprovesFree, VetoedExactlyWhere, ApprovesOrders}
 use Rattle.ecf_verdicts.specs.Placing.{placing}
-use Rattle.ecf_verdicts.specs.Traces.{trace, join, members, objects}
+use Rattle.ecf_verdicts.specs.Traces.{trace, with_number, members, objects}
 use Rattle.ecf_verdicts.specs.Verdicts.{Verdict, Approved, Vetoed, verdict, orders, vetoed_object}
 use Rattle.ecf_verdicts.proofs.AtLaws.{free_from_test, not_free, nothing_placed}
-use Rattle.ecf_verdicts.proofs.FreePlaced.{find_some, find_none, cases_next}
-use Rattle.ecf_verdicts.proofs.Lists.{Each, In, Each_at, Each_from, Each_weaker}
 use Rattle.ecf_verdicts.proofs.AtLaws.{at_is_shortest}
 use Rattle.ecf_verdicts.proofs.CycleLaws.{cycle_named}
-use Rattle.ecf_verdicts.proofs.Lists.{Has, Has_in, All_from_Each}
-use Rattle.ecf_verdicts.proofs.Rising.{Rising, Rising_join, increasing, Any_from_Has, Has_from_Any}
-use Rattle.ecf_verdicts.proofs.Members.{In_join_new, In_join_old}
+use Rattle.ecf_verdicts.specs.ListLemmas.{Each, Has, In, Each_at, Each_from, Each_weaker, Has_in, All_from_Each, Any_from_Has, Has_from_Any, find_some, find_none, option_cases}
+use Rattle.ecf_verdicts.specs.RisingLemmas.{Rising, increasing_from}
+use Rattle.ecf_verdicts.proofs.MemberLaws.{In_with_number_new, In_with_number_old, Rising_with_number}
 
 Rising_objects : (t : List Step) → Rising (objects t)
 unfolding objects
 Rising_objects [] = tt
-Rising_objects (s ∷ rest) = Rising_join s.cell.object (objects rest) (Rising_objects rest)
+Rising_objects (s ∷ rest) = Rising_with_number s.cell.object (objects rest) (Rising_objects rest)
 
 -- an object with no step has no trace
 no_trace : (steps : List Step) (o : ℕ) → (In o (objects steps) → ⊥) → trace steps o ≡ []
 unfolding objects trace
 no_trace [] o n = refl
 no_trace (s ∷ rest) o n =
-    rw (ne_eqb s.cell.object o (λ e. n (subst (λ x. In x (join s.cell.object (objects rest))) e (In_join_new s.cell.object (objects rest)))))
-    (no_trace rest o (λ i. n (In_join_old o s.cell.object (objects rest) i)))
+    rw (ne_eqb s.cell.object o (λ e. n (subst (λ x. In x (with_number s.cell.object (objects rest))) e (In_with_number_new s.cell.object (objects rest)))))
+    (no_trace rest o (λ i. n (In_with_number_old o s.cell.object (objects rest) i)))
 
 pub cases_in : (o : ℕ) (xs : List ℕ) → In o xs ⊎ (In o xs → ⊥)
 cases_in o [] = inr (λ h. h)
@@ -42,7 +41,7 @@ cases_in o (x ∷ xs) = elim (cases_eq o x) [
 pub find_least : (p : ℕ → Bool) (xs : List ℕ) (x y : ℕ) → Rising xs → find p xs ≡ Some x → In y xs → y < x → p y ≡ false
 find_least p [] x y r e i l = absurd i
 find_least p (z ∷ zs) x y r e i l = elim (cases_Bool (p z)) [
-  | inl t ↦ (let same : z ≡ x = Rattle.ecf_verdicts.proofs.Swapped.Some_same _ _ (rw t at e) in
+  | inl t ↦ (let same : z ≡ x = same_Some _ _ (rw t at e) in
       elim i [
         | inl f ↦ absurd (omega (arith, f, same, l))
         | inr j ↦ absurd (omega (arith, Each_at (λ w. z < w) zs y r.0 j, same, l))
@@ -78,7 +77,7 @@ least_from steps o e = (
 )
 
 pub vetoes_least : VetoesLeast
-vetoes_least steps o n c e = elim (cases_next (vetoed_object steps)) [
+vetoes_least steps o n c e = elim (option_cases (vetoed_object steps)) [
   | inl none ↦ absurd (not_both _ o n c (sym (approved_none steps none) ∙ e))
   | inr some ↦ least_from steps o (some.1 ∙ ap (λ x. Some x) (same_object _ o _ n _ c (sym (vetoed_some steps some.0 some.1) ∙ e)))
 ]
@@ -88,7 +87,7 @@ unfolding vetoed_object
 all_from steps e o = free_of_none steps o (λ i. not-false _ (Each_at (λ q. not (is_placed (trace steps q)) ≡ false) (objects steps) o (find_none (λ q. not (is_placed (trace steps q))) (objects steps) e) i))
 
 pub approves_free : ApprovesFree
-approves_free steps os e = elim (cases_next (vetoed_object steps)) [
+approves_free steps os e = elim (option_cases (vetoed_object steps)) [
   | inl none ↦ all_from steps none
   | inr some ↦ absurd (not_both os _ _ _ (sym e ∙ vetoed_some steps some.0 some.1))
 ]
@@ -99,18 +98,18 @@ Explained steps (Approved os) = Unit {0}
 Explained steps (Vetoed o n c) = IsShortest (trace steps o) n × IsCycle (trace steps o) c
 
 pub vetoes_explain : VetoesExplain
-vetoes_explain steps o n c e = elim (cases_next (vetoed_object steps)) [
+vetoes_explain steps o n c e = elim (option_cases (vetoed_object steps)) [
   | inl none ↦ absurd (not_both _ o n c (sym (approved_none steps none) ∙ e))
   | inr some ↦ (let f = (least_from steps some.0 some.1).0 in subst (λ v. Explained steps v) (sym (vetoed_some steps some.0 some.1) ∙ e) (at_is_shortest (trace steps some.0) f, cycle_named (trace steps some.0) f))
 ]
 
 pub vetoed_exactly_where : VetoedExactlyWhere
 vetoed_exactly_where steps = (
-  λ v. elim (cases_next (vetoed_object steps)) [
+  λ v. elim (option_cases (vetoed_object steps)) [
     | inl none ↦ absurd (subst IsVeto (approved_none steps none) v)
     | inr some ↦ (some.0, (least_from steps some.0 some.1).0)
   ],
-  λ w. elim (cases_next (vetoed_object steps)) [
+  λ w. elim (option_cases (vetoed_object steps)) [
     | inl none ↦ absurd (w.1 (all_from steps none w.0))
     | inr some ↦ subst IsVeto (sym (vetoed_some steps some.0 some.1)) tt
   ],
@@ -120,27 +119,27 @@ vetoed_exactly_where steps = (
 several : List Step → ℕ → ℕ
 several steps o = length (members (trace steps o))
 
-named : List Step → ℕ → Order
-named steps o = record { object = o; invs = (placing (trace steps o)).placed }
+order_on : List Step → ℕ → Order
+order_on steps o = record { object = o; invs = (placing (trace steps o)).order }
 
-orders_with : (steps : List Step) (o : ℕ) (os : List ℕ) → 1 < several steps o → orders steps (o ∷ os) ≡ named steps o ∷ orders steps os
-unfolding orders several named
+orders_with : (steps : List Step) (o : ℕ) (os : List ℕ) → 1 < several steps o → orders steps (o ∷ os) ≡ order_on steps o ∷ orders steps os
+unfolding orders several order_on
 orders_with steps o os h = rw (lt-ltb 1 (length (members (trace steps o))) h) refl
 
 orders_without : (steps : List Step) (o : ℕ) (os : List ℕ) → several steps o ≤ 1 → orders steps (o ∷ os) ≡ orders steps os
-unfolding orders several named
+unfolding orders several order_on
 orders_without steps o os h = rw (le-ltb 1 (length (members (trace steps o))) h) refl
 
 -- each order is of one of the objects, and names its placing
 abbrev IsOf : List Step → List ℕ → Order → Type 0
-IsOf steps os r = In r.object os × (r.invs ≡ (placing (trace steps r.object)).placed) × (1 < several steps r.object)
+IsOf steps os r = In r.object os × (r.invs ≡ (placing (trace steps r.object)).order) × (1 < several steps r.object)
 
-named_is_of : (steps : List Step) (o : ℕ) (os : List ℕ) → 1 < several steps o → IsOf steps (o ∷ os) (named steps o)
-unfolding named several
+named_is_of : (steps : List Step) (o : ℕ) (os : List ℕ) → 1 < several steps o → IsOf steps (o ∷ os) (order_on steps o)
+unfolding order_on several
 named_is_of steps o os l = (inl refl, refl, l)
 
-named_object : (steps : List Step) (o : ℕ) → (named steps o).object ≡ o
-unfolding named
+named_object : (steps : List Step) (o : ℕ) → (order_on steps o).object ≡ o
+unfolding order_on
 named_object steps o = refl
 
 orders_of : (steps : List Step) (os : List ℕ) → Each (IsOf steps os) (orders steps os)
@@ -168,7 +167,7 @@ orders_rise steps (o ∷ os) h = go (cases_lt 1 (several steps o)) (orders_rise 
         subst (λ z. o < z) r.2 (Each_at (λ z. o < z) os _ h.0 (Each_at (IsOf steps os) (orders steps os) r.0 (orders_of steps os) r.1).0)
 
     go : (1 < several steps o) ⊎ (several steps o ≤ 1) → Rising (map (λ (r : Order). r.object) (orders steps os)) → Rising (map (λ (r : Order). r.object) (orders steps (o ∷ os)))
-    go (inl l) deep = subst (λ rs. Rising (map (λ (r : Order). r.object) rs)) (sym (orders_with steps o os l)) (Each_from (λ z. (named steps o).object < z) (map (λ (r : Order). r.object) (orders steps os)) (λ y i. subst (λ z. z < y) (sym (named_object steps o)) (above y i)), deep)
+    go (inl l) deep = subst (λ rs. Rising (map (λ (r : Order). r.object) rs)) (sym (orders_with steps o os l)) (Each_from (λ z. (order_on steps o).object < z) (map (λ (r : Order). r.object) (orders steps os)) (λ y i. subst (λ z. z < y) (sym (named_object steps o)) (above y i)), deep)
     go (inr g) deep = subst (λ rs. Rising (map (λ (r : Order). r.object) rs)) (sym (orders_without steps o os g)) deep
 
 orders_has : (steps : List Step) (os : List ℕ) (o : ℕ) → In o os → 1 < several steps o → Has (λ (r : Order). r.object ≡ o) (orders steps os)
@@ -196,8 +195,8 @@ lists_orders steps =
     let os = objects steps in
     let all = orders_of steps os in
     record {
-      rising = increasing _ (orders_rise steps os (Rising_objects steps));
-      named = All_from_Each _ (orders steps os) (Each_weaker _ (λ (r : Order). r.invs ≡ (placing (trace steps r.object)).placed) (orders steps os) (λ r h. h.1) all);
+      objects_rise = increasing_from _ (orders_rise steps os (Rising_objects steps));
+      orders_named = All_from_Each _ (orders steps os) (Each_weaker _ (λ (r : Order). r.invs ≡ (placing (trace steps r.object)).order) (orders steps os) (λ r h. h.1) all);
       where_several = λ o. (
         λ a. (let r = Has_in (λ (r : Order). r.object ≡ o) (orders steps os) (Has_from_Any (λ (r : Order). r.object ≡ o) (orders steps os) a) in subst (λ p. 2 ≤ several steps p) r.2 (Each_at (IsOf steps os) (orders steps os) r.0 all r.1).2),
         λ l. Any_from_Has (λ (r : Order). r.object ≡ o) (orders steps os) (orders_has steps os o (several_has steps o l) l),
@@ -208,7 +207,7 @@ same_orders : (os ps : List Order) → Approved os ≡ Approved ps → os ≡ ps
 same_orders os ps e = cc
 
 pub approves_orders : ApprovesOrders
-approves_orders steps os e = elim (cases_next (vetoed_object steps)) [
+approves_orders steps os e = elim (option_cases (vetoed_object steps)) [
   | inl none ↦ subst (λ l. ListsOrders steps l) (same_orders _ os (sym (approved_none steps none) ∙ e)) (lists_orders steps)
   | inr some ↦ absurd (not_both os _ _ _ (sym e ∙ vetoed_some steps some.0 some.1))
 ]

@@ -29,14 +29,14 @@ until i [] = []
 until i (j ∷ js) = if i == j then [] else j ∷ until i js
 
 -- the least of a number and a list
-unfoldable pub least : ℕ → List ℕ → ℕ
-least i [] = i
-least i (j ∷ js) = min i (least j js)
+unfoldable pub minimum : ℕ → List ℕ → ℕ
+minimum i [] = i
+minimum i (j ∷ js) = min i (minimum j js)
 
 -- a cycle written so that it begins with its least member
-unfoldable pub begun_at_least : List ℕ → List ℕ
-begun_at_least [] = []
-begun_at_least (i ∷ is) = from (least i is) (i ∷ is) ++ until (least i is) (i ∷ is)
+unfoldable pub rotation_to_minimum : List ℕ → List ℕ
+rotation_to_minimum [] = []
+rotation_to_minimum (i ∷ is) = from (minimum i is) (i ∷ is) ++ until (minimum i is) (i ∷ is)
 
 -- The walk from a present invocation to the least of the rest that is before it, and on from there.
 -- At the first repeat: the members between the two visits, each before the next. It makes at most so many moves.
@@ -53,7 +53,7 @@ walk t rest (suc n) present earlier = elim (least_before t rest present) [
 -- the walk from the least of the rest
 unfoldable pub cycle_in : List Step → List ℕ → List ℕ
 cycle_in t [] = []
-cycle_in t (i ∷ is) = begun_at_least (walk t (i ∷ is) (length (i ∷ is)) i [])
+cycle_in t (i ∷ is) = rotation_to_minimum (walk t (i ∷ is) (length (i ∷ is)) i [])
 
 -- the named cycle of a trace that isn't free
 unfoldable pub cycle : List Step → List ℕ
@@ -64,10 +64,10 @@ unfoldable pub is_placed : List Step → Bool
 is_placed t = elim (placing t).rest [ [] ↦ true | i ∷ is ↦ false ]
 
 -- the first of the numbers from n on, at most so many of them, whose first part of the trace leaves a rest
-unfoldable pub shortest : List Step → ℕ → ℕ → ℕ
-shortest t zero n = n
-shortest t (suc more) n = elim (is_placed (take n t)) [ true ↦ shortest t more (suc n) | false ↦ n ]
+unfoldable pub shortest_part : List Step → ℕ → ℕ → ℕ
+shortest_part t zero n = n
+shortest_part t (suc more) n = elim (is_placed (take n t)) [ true ↦ shortest_part t more (suc n) | false ↦ n ]
 
 -- the number of steps of the shortest first part that isn't free
 unfoldable pub at : List Step → ℕ
-at t = shortest t (length t) 0
+at t = shortest_part t (length t) 0

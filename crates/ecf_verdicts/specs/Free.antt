@@ -12,5 +12,5 @@ pub record IsTogether (t : List Step) : Type 0 where
 pub record Free (t : List Step) : Type 0 where
   pub places : List ℕ
   pub result : List Step
-  pub swapped : swaps t places ≡ Some result
-  pub together : IsTogether result
+  pub swaps_to_result : swaps t places ≡ Some result
+  pub is_together : IsTogether result

@@ -18,12 +18,13 @@ of_submitter txs submitter ps = filter (λ p. submitter_at txs p == submitter) p
 -- a legal journal: the places of the transactions, each once, those of one submitter rising
 pub record IsLegal (txs : List Tx) (journal : List ℕ) : Type 0 where
   pub each_once : IsPermutation (places txs) journal
-  pub in_turn : AllPairs (λ p q. submitter_at txs p ≡ submitter_at txs q → p < q) journal
+  pub submitters_in_order : AllPairs (λ p q. submitter_at txs p ≡ submitter_at txs q → p < q) journal
 
 -- a legal journal so far: of each submitter the first places, rising
 pub record IsLegalSoFar (txs : List Tx) (journal : List ℕ) : Type 0 where
   pub known : All (λ p. p < length txs) journal
-  pub first_ones : (submitter : ℕ) → of_submitter txs submitter journal ≡ take (length (of_submitter txs submitter journal)) (of_submitter txs submitter (places txs))
+  pub first_ones : (submitter : ℕ) →
+      of_submitter txs submitter journal ≡ take (length (of_submitter txs submitter journal)) (of_submitter txs submitter (places txs))
 
 -- the transactions at these places, in their order
 abbrev pub along : List Tx → List ℕ → List Tx

@@ -1,12 +1,13 @@
 -- What the definitions promise.
 use Rattle.std.specs.List.Sorted.{IsNonDecreasingBy, IsStrictlyIncreasing}
-use Rattle.std.specs.Prelude.{◌&&◌, ⊤, nat_lt, map, Any, ◌≡◌, ◌↔◌, ◌≢◌, ◌⊎◌, ◌==◌, ◌<◌, ◌≤◌, ◌+◌, ◌-◌, ℕ, true, List, [], ◌∷◌, All, AllPairs, Contains, IsPermutation, Some, filter, length, slice_index, slice_index_or, take}
+use Rattle.std.specs.Prelude.{◌&&◌, ⊤, nat_lt, map, Any, ◌≡◌, ◌↔◌, ◌≢◌, ◌⊎◌, ◌==◌, ◌<◌, ◌≤◌, ◌+◌, ◌-◌, ℕ, true, false, List, [], ◌∷◌, All, AllPairs, Contains, IsPermutation, Some, filter, length, slice_index, slice_index_or, take}
 use Rattle.ecf_lang.specs.declared.cell.Cell.{Cell}
 use Rattle.ecf_lang.specs.declared.receipt.Order.{Order}
 use Rattle.ecf_lang.specs.declared.run.Step.{Step}
 use Rattle.ecf_verdicts.specs.Before.{before}
+use Rattle.ecf_verdicts.specs.Blocks.{blocks}
 use Rattle.ecf_verdicts.specs.Conflicts.{conflicts, same_cell}
-use Rattle.ecf_verdicts.specs.Cycles.{at, cycle, least_before, walk}
+use Rattle.ecf_verdicts.specs.Cycles.{at, cycle, is_placed, least_before, walk}
 use Rattle.ecf_verdicts.specs.Free.{Free}
 use Rattle.ecf_verdicts.specs.Placing.{next_placed, placing}
 use Rattle.ecf_verdicts.specs.Swaps.{swaps}
@@ -16,6 +17,22 @@ use Rattle.ecf_verdicts.specs.Verdicts.{Verdict, Approved, Vetoed, verdict}
 -- a trace is free exactly where the placing leaves no rest
 abbrev pub FreeExactlyWherePlaced : Type 0
 FreeExactlyWherePlaced = (t : List Step) → Free t ↔ ((placing t).rest ≡ [])
+
+-- a rank of invocations that keeps what is before what
+abbrev pub KeepsBefore : List Step → (ℕ → ℕ) → Type 0
+KeepsBefore t rank = (i j : ℕ) → before t i j ≡ true → rank i < rank j
+
+-- a trace is free exactly where some rank keeps what is before what
+abbrev pub FreeExactlyWhereOrdered : Type 0
+FreeExactlyWhereOrdered = (t : List Step) → Free t ↔ (rank : ℕ → ℕ) × KeepsBefore t rank
+
+-- the test says which traces are free
+abbrev pub TestTellsFree : Type 0
+TestTellsFree = (t : List Step) → ((is_placed t ≡ true) ↔ Free t) × ((is_placed t ≡ false) ↔ (Free t → ⊥))
+
+-- a free trace is brought into the blocks of its invocations in their named order
+abbrev pub FreeInBlocks : Type 0
+FreeInBlocks = (t : List Step) → Free t → (places : List ℕ) × (swaps t places ≡ Some (blocks t (placing t).order))
 
 -- a trace of one invocation is free
 abbrev pub SingleFree : Type 0
@@ -52,25 +69,26 @@ abbrev pub FirstPartsFree : Type 0
 FirstPartsFree = (t : List Step) → Free t → (n : ℕ) → Free (take n t)
 
 -- how many pairs of steps a rank of invocations puts the other way round
-unfoldable pub out_of_order : (ℕ → ℕ) → List Step → ℕ
-out_of_order rank [] = 0
-out_of_order rank (s ∷ later) =
-    length (filter (λ u. nat_lt (rank u.inv) (rank s.inv)) later) + out_of_order rank later
+unfoldable pub inversion_count : (ℕ → ℕ) → List Step → ℕ
+inversion_count rank [] = 0
+inversion_count rank (s ∷ later) =
+    length (filter (λ u. nat_lt (rank u.inv) (rank s.inv)) later) + inversion_count rank later
 
 -- legal swaps to a trace in which the rank doesn't fall
 pub record SwapsTo (rank : ℕ → ℕ) (t : List Step) (places : List ℕ) (u : List Step) : Type 0 where
-  pub swapped : swaps t places ≡ Some u
+  pub swaps_to_result : swaps t places ≡ Some u
   pub in_order : IsNonDecreasingBy (λ (s : Step). rank s.inv) u
 
 -- a rank that keeps what is before what is reached by legal swaps, one for each pair of steps out of it
 abbrev pub SwapsIntoOrder : Type 0
-SwapsIntoOrder = (t : List Step) (rank : ℕ → ℕ) → ((i j : ℕ) → before t i j ≡ true → rank i < rank j) →
-    (places : List ℕ) × (u : List Step) × SwapsTo rank t places u × (length places ≡ out_of_order rank t)
+SwapsIntoOrder = (t : List Step) (rank : ℕ → ℕ) → KeepsBefore t rank →
+    (places : List ℕ) × (u : List Step) × SwapsTo rank t places u × (length places ≡ inversion_count rank t)
 
 -- two places of the trace, the first earlier, whose steps are of i and of j and conflict
 abbrev pub ConflictsInOrder : List Step → ℕ → ℕ → Type 0
 ConflictsInOrder t i j = (p : ℕ) × (q : ℕ) × (p < q) × (q < length t) × (
-    (d : Step) → ((slice_index_or t p d).inv ≡ i) × ((slice_index_or t q d).inv ≡ j) × (conflicts (slice_index_or t p d) (slice_index_or t q d) ≡ true))
+    (d : Step) → ((slice_index_or t p d).inv ≡ i) × ((slice_index_or t q d).inv ≡ j)
+    × (conflicts (slice_index_or t p d) (slice_index_or t q d) ≡ true))
 
 -- "before" says exactly that there are such places
 abbrev pub BeforeExactlyWhere : Type 0
@@ -80,18 +98,22 @@ BeforeExactlyWhere = (t : List Step) (i j : ℕ) → (before t i j ≡ true) ↔
 abbrev pub MembersAre : Type 0
 MembersAre = (t : List Step) → IsStrictlyIncreasing (members t) × ((i : ℕ) → Contains (members t) i ↔ Any (λ s. s.inv ≡ i) t)
 
+-- what is before what has steps
+abbrev pub BeforeIsOfMembers : Type 0
+BeforeIsOfMembers = (t : List Step) (i j : ℕ) → before t i j ≡ true → Contains (members t) i × Contains (members t) j
+
 -- the placed invocations are distinct and have steps
 abbrev pub PlacesMembers : Type 0
-PlacesMembers = (t : List Step) → AllPairs (λ i j. i ≢ j) (placing t).placed × All (Contains (members t)) (placing t).placed
+PlacesMembers = (t : List Step) → AllPairs (λ i j. i ≢ j) (placing t).order × All (Contains (members t)) (placing t).order
 
 -- whatever is before a placed invocation is placed earlier
 abbrev pub PlacedKeepsBefore : Type 0
-PlacedKeepsBefore = (t : List Step) (k i : ℕ) → k < length (placing t).placed → before t i (slice_index (placing t).placed k) ≡ true →
-    (m : ℕ) × (m < k) × (slice_index (placing t).placed m ≡ i)
+PlacedKeepsBefore = (t : List Step) (k i : ℕ) → k < length (placing t).order → before t i (slice_index (placing t).order k) ≡ true →
+    (m : ℕ) × (m < k) × (slice_index (placing t).order m ≡ i)
 
 -- each invocation that has steps is placed or in the rest
 abbrev pub MembersPlacedOrRest : Type 0
-MembersPlacedOrRest = (t : List Step) → All (λ i. Contains (placing t).placed i ⊎ Contains (placing t).rest i) (members t)
+MembersPlacedOrRest = (t : List Step) → All (λ i. Contains (placing t).order i ⊎ Contains (placing t).rest i) (members t)
 
 -- each of the rest has one of the rest before it, so that nothing more can be placed
 abbrev pub RestIsStuck : Type 0
@@ -165,8 +187,8 @@ VetoedExactlyWhere = (steps : List Step) → IsVeto (verdict steps) ↔ (o : ℕ
 
 -- an approval lists, objects rising, the named order of each object on which at least two invocations have steps
 pub record ListsOrders (steps : List Step) (orders : List Order) : Type 0 where
-  pub rising : IsStrictlyIncreasing (map (λ r. r.object) orders)
-  pub named : All (λ r. r.invs ≡ (placing (trace steps r.object)).placed) orders
+  pub objects_rise : IsStrictlyIncreasing (map (λ r. r.object) orders)
+  pub orders_named : All (λ r. r.invs ≡ (placing (trace steps r.object)).order) orders
   pub where_several : (o : ℕ) → Any (λ r. r.object ≡ o) orders ↔ (2 ≤ length (members (trace steps o)))
 
 -- so each approval lists its orders

@@ -19,19 +19,19 @@ without i xs = filter (λ j. not (j == i)) xs
 
 -- the invocations in the order of placing, and those that can't be placed, rising
 pub record Placing : Type 0 where
-  pub placed : List ℕ
+  pub order : List ℕ
   pub rest : List ℕ
 
 -- at most so many are placed, again and again the next
-unfoldable pub place : List Step → ℕ → List ℕ → Placing
-place t zero unplaced = record { placed = []; rest = unplaced }
-place t (suc n) unplaced = elim (next_placed t unplaced) [
-  | None ↦ record { placed = []; rest = unplaced }
+unfoldable pub placing_from : List Step → ℕ → List ℕ → Placing
+placing_from t zero unplaced = record { order = []; rest = unplaced }
+placing_from t (suc n) unplaced = elim (next_placed t unplaced) [
+  | None ↦ record { order = []; rest = unplaced }
   | Some j ↦
-      let later = place t n (without j unplaced) in
-      record { placed = j ∷ later.placed; rest = later.rest }
+      let later = placing_from t n (without j unplaced) in
+      record { order = j ∷ later.order; rest = later.rest }
 ]
 
 -- the placing of all invocations that have steps in the trace
 unfoldable pub placing : List Step → Placing
-placing t = place t (length (members t)) (members t)
+placing t = placing_from t (length (members t)) (members t)

@@ -25,18 +25,19 @@ receipt_of outcome.OutOfFuel fuel steps = receipt.OutOfFuel fuel
 
 -- the receipt of a transaction on a store
 unfoldable pub receipt_on : Typed → Store → Tx → Receipt
-receipt_on typed store tx = let ran = run typed store tx in receipt_of ran.outcome ran.fuel ran.steps
+receipt_on typed store tx = let result = run typed store tx in receipt_of result.outcome result.fuel result.steps
 
 -- the store that a receipt leaves: only a committed one changes it
-abbrev pub kept : Receipt → Store → Store → Store
-kept (receipt.Committed answer fuel orders) before after = after
-kept (receipt.Reverted cause fuel) before after = before
-kept (receipt.OutOfFuel fuel) before after = before
-kept (receipt.Vetoed object at cycle fuel) before after = before
+abbrev pub store_after : Receipt → Store → Store → Store
+store_after (receipt.Committed answer fuel orders) before after = after
+store_after (receipt.Reverted cause fuel) before after = before
+store_after (receipt.OutOfFuel fuel) before after = before
+store_after (receipt.Vetoed object at cycle fuel) before after = before
+store_after (receipt.Barred watch fuel) before after = before
 
 -- the store after a transaction
-unfoldable pub next : Typed → Store → Tx → Store
-next typed store tx = kept (receipt_on typed store tx) store (run typed store tx).store
+unfoldable pub next_store : Typed → Store → Tx → Store
+next_store typed store tx = store_after (receipt_on typed store tx) store (run typed store tx).store
 
 -- the receipts of transactions in their order, and the last store
 pub record Serial : Type 0 where
@@ -47,7 +48,7 @@ pub record Serial : Type 0 where
 unfoldable pub serial_from : Typed → Store → List Tx → Serial
 serial_from typed store [] = record { receipts = []; store = store }
 serial_from typed store (tx ∷ txs) =
-    let later = serial_from typed (next typed store tx) txs in
+    let later = serial_from typed (next_store typed store tx) txs in
     record { receipts = receipt_on typed store tx ∷ later.receipts; store = later.store }
 
 -- transactions one after the other, from the initial values of the contract

@@ -1,5 +1,5 @@
 -- What receipts, serial runs and journals promise.
-use Rattle.std.specs.Prelude.{◌≡◌, ◌↔◌, ℕ, List, [], ◌∷◌, ◌++◌, length, take, ⊤}
+use Rattle.std.specs.Prelude.{◌≡◌, ◌↔◌, ℕ, List, [], ◌∷◌, ◌++◌, length, take, All, ⊤}
 use Rattle.ecf_lang.specs.declared.receipt.Receipt.{Receipt}
 use Rattle.ecf_lang.specs.declared.receipt.Receipt.TheVariants as receipt
 use Rattle.ecf_lang.specs.declared.run.Outcome.{Outcome}
@@ -11,7 +11,7 @@ use Rattle.ecf_lang.specs.Meaning.{run}
 use Rattle.ecf_lang.specs.Store.{Store}
 use Rattle.ecf_verdicts.specs.Free.{Free}
 use Rattle.ecf_verdicts.specs.Journals.{IsLegal, IsLegalSoFar, along, places}
-use Rattle.ecf_verdicts.specs.Receipts.{next, receipt_on, serial, serial_from}
+use Rattle.ecf_verdicts.specs.Receipts.{next_store, receipt_on, serial, serial_from, store_after}
 use Rattle.ecf_verdicts.specs.Traces.{trace}
 
 -- the run answered
@@ -26,6 +26,7 @@ IsVetoed (receipt.Committed answer fuel orders) = ⊥
 IsVetoed (receipt.Reverted cause fuel) = ⊥
 IsVetoed (receipt.OutOfFuel fuel) = ⊥
 IsVetoed (receipt.Vetoed object at cycle fuel) = ⊤
+IsVetoed (receipt.Barred watch fuel) = ⊥
 
 -- A transaction is vetoed exactly where its run answers and, for some object, no swaps of neighbouring steps that
 -- don't conflict, of different invocations, bring the steps of each invocation together.
@@ -39,14 +40,33 @@ IsCommitted (receipt.Committed answer fuel orders) = ⊤
 IsCommitted (receipt.Reverted cause fuel) = ⊥
 IsCommitted (receipt.OutOfFuel fuel) = ⊥
 IsCommitted (receipt.Vetoed object at cycle fuel) = ⊥
+IsCommitted (receipt.Barred watch fuel) = ⊥
+
+-- the receipt says that a watch voted the transaction down
+abbrev pub IsBarred : Receipt → Type 0
+IsBarred (receipt.Committed answer fuel orders) = ⊥
+IsBarred (receipt.Reverted cause fuel) = ⊥
+IsBarred (receipt.OutOfFuel fuel) = ⊥
+IsBarred (receipt.Vetoed object at cycle fuel) = ⊥
+IsBarred (receipt.Barred watch fuel) = ⊤
+
+-- a barred transaction isn't committed and isn't vetoed, and leaves the store as it was
+abbrev pub BarredChangesNothing : Type 0
+BarredChangesNothing = (r : Receipt) → IsBarred r →
+    (IsCommitted r → ⊥) × (IsVetoed r → ⊥) × ((before after : Store) → store_after r before after ≡ before)
+
+-- no watch takes part in a serial run: none of its receipts is barred
+abbrev pub SerialNeverBars : Type 0
+SerialNeverBars = (typed : Typed) (store : Store) (txs : List Tx) → All (λ r. IsBarred r → ⊥) (serial_from typed store txs).receipts
 
 -- a committed transaction leaves the store of its run's end
 abbrev pub CommitKeepsEnd : Type 0
-CommitKeepsEnd = (typed : Typed) (store : Store) (tx : Tx) → IsCommitted (receipt_on typed store tx) → next typed store tx ≡ (run typed store tx).store
+CommitKeepsEnd = (typed : Typed) (store : Store) (tx : Tx) →
+    IsCommitted (receipt_on typed store tx) → next_store typed store tx ≡ (run typed store tx).store
 
 -- any other transaction leaves the store as it was
 abbrev pub OnlyCommitChanges : Type 0
-OnlyCommitChanges = (typed : Typed) (store : Store) (tx : Tx) → (IsCommitted (receipt_on typed store tx) → ⊥) → next typed store tx ≡ store
+OnlyCommitChanges = (typed : Typed) (store : Store) (tx : Tx) → (IsCommitted (receipt_on typed store tx) → ⊥) → next_store typed store tx ≡ store
 
 -- a transaction is committed exactly where its run answers and the trace of each object is free
 abbrev pub CommittedWhereFree : Type 0
@@ -61,7 +81,7 @@ SerialBegins = (typed : Typed) → serial typed [] ≡ record { receipts = []; s
 abbrev pub SerialAddsOne : Type 0
 SerialAddsOne = (typed : Typed) (txs : List Tx) (tx : Tx) →
     let first = serial typed txs in
-    serial typed (txs ++ tx ∷ []) ≡ record { receipts = first.receipts ++ receipt_on typed first.store tx ∷ []; store = next typed first.store tx }
+    serial typed (txs ++ tx ∷ []) ≡ record { receipts = first.receipts ++ receipt_on typed first.store tx ∷ []; store = next_store typed first.store tx }
 
 -- further transactions go on from the store that the earlier ones leave
 abbrev pub SerialGoesOn : Type 0

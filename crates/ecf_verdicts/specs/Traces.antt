@@ -11,16 +11,16 @@ abbrev pub inv_at : List Step → ℕ → ℕ
 inv_at t place = slice_index (map (λ (s : Step). s.inv) t) place
 
 -- a number joins a rising list, once
-unfoldable pub join : ℕ → List ℕ → List ℕ
-join i [] = i ∷ []
-join i (j ∷ js) = if nat_lt i j then i ∷ j ∷ js else (if i == j then j ∷ js else j ∷ join i js)
+unfoldable pub with_number : ℕ → List ℕ → List ℕ
+with_number i [] = i ∷ []
+with_number i (j ∷ js) = if nat_lt i j then i ∷ j ∷ js else (if i == j then j ∷ js else j ∷ with_number i js)
 
 -- the invocations that have steps, rising
 unfoldable pub members : List Step → List ℕ
 members [] = []
-members (s ∷ rest) = join s.inv (members rest)
+members (s ∷ rest) = with_number s.inv (members rest)
 
 -- the objects that have steps, rising
 unfoldable pub objects : List Step → List ℕ
 objects [] = []
-objects (s ∷ rest) = join s.cell.object (objects rest)
+objects (s ∷ rest) = with_number s.cell.object (objects rest)

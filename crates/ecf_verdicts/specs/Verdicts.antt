@@ -16,8 +16,8 @@ unfoldable pub orders : List Step → List ℕ → List Order
 orders steps [] = []
 orders steps (o ∷ os) =
     let later = orders steps os in
-    let named : Order = record { object = o; invs = (placing (trace steps o)).placed } in
-    if nat_lt 1 (length (members (trace steps o))) then named ∷ later else later
+    let order : Order = record { object = o; invs = (placing (trace steps o)).order } in
+    if nat_lt 1 (length (members (trace steps o))) then order ∷ later else later
 
 -- the least object whose trace isn't free; the objects rise
 unfoldable pub vetoed_object : List Step → Option ℕ

@@ -3,12 +3,27 @@
 #![tactic(auto)]
 
 ghost use Rattle.ecf_verdicts.specs.Cases.{ApartYetFree, CallbackFirst, CalledInside, CalledOutside, ClearsFirst, EqualValuesConflict, FirstReaderAgain, PaysFirst, RevertsLater, StartOutside, ThreeInARing, TwoCalls, TwoCycles, TwoObjects, TwoReaders};
-ghost use Rattle.ecf_verdicts.specs.Laws.{ApprovesFree, ApprovesOrders, AtIsShortest, BeforeExactlyWhere, CycleNamed, FirstPartsFree, FreeExactlyWherePlaced, MembersAre, MembersPlacedOrRest, MovesSuffice, NextIsLeast, PlacedKeepsBefore, PlacesMembers, RestIsStuck, RestRises, SingleApproved, SingleFree, StepIsLeast, SwapsIntoOrder, SwapsKeepBefore, SwapsKeepInvocations, SwapsKeepWrites, SwapsPermute, SwapsUndone, VetoedExactlyWhere, VetoesExplain, VetoesLeast};
-ghost use Rattle.ecf_verdicts.specs.SerialLaws.{AlongEach, AlongPlaces, CommitKeepsEnd, CommittedWhereFree, FirstPartsLegal, LegalWhenWhole, OnlyCommitChanges, ReceiptEach, SerialAddsOne, SerialBegins, SerialGoesOn, VetoedWhereNotFree};
+ghost use Rattle.ecf_verdicts.specs.Laws.{ApprovesFree, ApprovesOrders, AtIsShortest, BeforeExactlyWhere, BeforeIsOfMembers, CycleNamed, FirstPartsFree, FreeExactlyWhereOrdered, FreeExactlyWherePlaced, FreeInBlocks, MembersAre, MembersPlacedOrRest, MovesSuffice, NextIsLeast, PlacedKeepsBefore, PlacesMembers, RestIsStuck, RestRises, SingleApproved, SingleFree, StepIsLeast, SwapsIntoOrder, SwapsKeepBefore, SwapsKeepInvocations, SwapsKeepWrites, SwapsPermute, SwapsUndone, TestTellsFree, VetoedExactlyWhere, VetoesExplain, VetoesLeast};
+ghost use Rattle.ecf_verdicts.specs.SerialLaws.{AlongEach, AlongPlaces, BarredChangesNothing, CommitKeepsEnd, CommittedWhereFree, FirstPartsLegal, LegalWhenWhole, OnlyCommitChanges, ReceiptEach, SerialAddsOne, SerialBegins, SerialGoesOn, SerialNeverBars, VetoedWhereNotFree};
 
 /// Swaps can bring the steps of each invocation together exactly where all invocations can be placed.
 pub fn free_exactly_where_placed()
     ensures { FreeExactlyWherePlaced }
+{}
+
+/// A trace is free exactly where its invocations can be ranked so that each "before" goes up.
+pub fn free_exactly_where_ordered()
+    ensures { FreeExactlyWhereOrdered }
+{}
+
+/// The test of a whole placing says which traces are free.
+pub fn test_tells_free()
+    ensures { TestTellsFree }
+{}
+
+/// Legal swaps bring a free trace into the blocks of its invocations in their named order.
+pub fn free_in_blocks()
+    ensures { FreeInBlocks }
 {}
 
 /// A trace of one invocation is free.
@@ -59,6 +74,11 @@ pub fn before_exactly_where()
 /// The members of a trace are the invocations that have steps in it, rising.
 pub fn members_are()
     ensures { MembersAre }
+{}
+
+/// Only invocations that have steps are before others.
+pub fn before_is_of_members()
+    ensures { BeforeIsOfMembers }
 {}
 
 /// The placing lists distinct invocations that have steps.
@@ -159,6 +179,16 @@ pub fn commit_keeps_end()
 /// Any other transaction leaves the store as it was.
 pub fn only_commit_changes()
     ensures { OnlyCommitChanges }
+{}
+
+/// A barred transaction isn't committed and isn't vetoed, and leaves the store as it was.
+pub fn barred_changes_nothing()
+    ensures { BarredChangesNothing }
+{}
+
+/// A serial run bars no transaction.
+pub fn serial_never_bars()
+    ensures { SerialNeverBars }
 {}
 
 /// A serial run begins at the contract's initial values.

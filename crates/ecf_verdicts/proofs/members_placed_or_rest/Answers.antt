@@ -1,4 +1,4 @@
-use Rattle.ecf_verdicts.proofs.PlaceLaws as laws
+use Rattle.ecf_verdicts.proofs.PlacingLaws as laws
 use Rattle.ecf_verdicts.proofs.members_placed_or_rest.Goals as goal
 
 pub returns : goal.returns

@@ -1,4 +1,4 @@
-use Rattle.ecf_verdicts.proofs.PlaceLaws as laws
+use Rattle.ecf_verdicts.proofs.PlacingLaws as laws
 use Rattle.ecf_verdicts.proofs.placed_keeps_before.Goals as goal
 
 pub returns : goal.returns

@@ -1,4 +1,4 @@
-use Rattle.ecf_verdicts.proofs.PlaceLaws as laws
+use Rattle.ecf_verdicts.proofs.PlacingLaws as laws
 use Rattle.ecf_verdicts.proofs.rest_is_stuck.Goals as goal
 
 pub returns : goal.returns

@@ -1,4 +1,4 @@
-use Rattle.ecf_verdicts.proofs.SerialProved as laws
+use Rattle.ecf_verdicts.proofs.ReceiptLaws as laws
 use Rattle.ecf_verdicts.proofs.serial_goes_on.Goals as goal
 
 pub returns : goal.returns

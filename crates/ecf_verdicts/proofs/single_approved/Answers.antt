@@ -1,4 +1,4 @@
-use Rattle.ecf_verdicts.proofs.Single as laws
+use Rattle.ecf_verdicts.proofs.SingleLaws as laws
 use Rattle.ecf_verdicts.proofs.single_approved.Goals as goal
 
 pub returns : goal.returns

@@ -1,4 +1,4 @@
-use Rattle.ecf_verdicts.proofs.FreePlaced as laws
+use Rattle.ecf_verdicts.proofs.FreeLaws as laws
 use Rattle.ecf_verdicts.proofs.single_free.Goals as goal
 
 pub returns : goal.returns

@@ -1,4 +1,4 @@
-use Rattle.ecf_verdicts.proofs.Sorting as laws
+use Rattle.ecf_verdicts.proofs.SortingLaws as laws
 use Rattle.ecf_verdicts.proofs.swaps_into_order.Goals as goal
 
 pub returns : goal.returns

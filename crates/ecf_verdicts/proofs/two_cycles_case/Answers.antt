@@ -1,4 +1,4 @@
-use Rattle.ecf_verdicts.proofs.CasesProved as laws
+use Rattle.ecf_verdicts.proofs.CaseLaws as laws
 use Rattle.ecf_verdicts.proofs.two_cycles_case.Goals as goal
 
 pub returns : goal.returns

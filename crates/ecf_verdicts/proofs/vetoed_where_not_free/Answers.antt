@@ -1,4 +1,4 @@
-use Rattle.ecf_verdicts.proofs.SerialProved as laws
+use Rattle.ecf_verdicts.proofs.ReceiptLaws as laws
 use Rattle.ecf_verdicts.proofs.vetoed_where_not_free.Goals as goal
 
 pub returns : goal.returns

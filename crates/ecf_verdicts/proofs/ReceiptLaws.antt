@@ -12,8 +12,9 @@ use Rattle.ecf_lang.specs.Meaning.{run}
 use Rattle.ecf_lang.specs.Store.{Store}
 use Rattle.ecf_verdicts.specs.Free.{Free}
 use Rattle.ecf_verdicts.specs.Laws.{IsVeto}
-use Rattle.ecf_verdicts.specs.Receipts.{Serial, receipt_of_answer, receipt_of, kept, next, receipt_on, serial, serial_from}
-use Rattle.ecf_verdicts.specs.SerialLaws.{IsAnswer, IsVetoed, IsCommitted, VetoedWhereNotFree, CommitKeepsEnd, OnlyCommitChanges, CommittedWhereFree, SerialBegins, SerialAddsOne, SerialGoesOn, ReceiptEach}
+use Rattle.ecf_verdicts.specs.ListLemmas.{Each, All_from_Each}
+use Rattle.ecf_verdicts.specs.Receipts.{Serial, receipt_of_answer, receipt_of, store_after, next_store, receipt_on, serial, serial_from}
+use Rattle.ecf_verdicts.specs.SerialLaws.{IsAnswer, IsVetoed, IsCommitted, IsBarred, BarredChangesNothing, SerialNeverBars, VetoedWhereNotFree, CommitKeepsEnd, OnlyCommitChanges, CommittedWhereFree, SerialBegins, SerialAddsOne, SerialGoesOn, ReceiptEach}
 use Rattle.ecf_verdicts.specs.Traces.{trace}
 use Rattle.ecf_verdicts.specs.Verdicts.{Verdict, Approved, Vetoed, verdict}
 use Rattle.ecf_verdicts.proofs.VerdictLaws.{vetoed_exactly_where, approves_free}
@@ -37,31 +38,61 @@ vetoed_where_not_free typed store tx = let r = veto_of (run typed store tx).outc
 pub serial_goes_on : SerialGoesOn
 unfolding serial_from
 serial_goes_on typed store [] more = refl
-serial_goes_on typed store (tx ∷ txs) more = ap (λ (s : Serial). record { receipts = receipt_on typed store tx ∷ s.receipts; store = s.store }) (serial_goes_on typed (next typed store tx) txs more)
+serial_goes_on typed store (tx ∷ txs) more = ap (λ (s : Serial). record { receipts = receipt_on typed store tx ∷ s.receipts; store = s.store }) (serial_goes_on typed (next_store typed store tx) txs more)
 
 pub receipt_each : ReceiptEach
 unfolding serial_from
 receipt_each typed store [] = refl
-receipt_each typed store (tx ∷ txs) = ap suc (receipt_each typed (next typed store tx) txs)
+receipt_each typed store (tx ∷ txs) = ap suc (receipt_each typed (next_store typed store tx) txs)
 
-kept_committed : (r : Receipt) (before after : Store) → IsCommitted r → kept r before after ≡ after
+kept_committed : (r : Receipt) (before after : Store) → IsCommitted r → store_after r before after ≡ after
 kept_committed (receipt.Committed answer fuel orders) before after h = refl
 kept_committed (receipt.Reverted cause fuel) before after h = absurd h
 kept_committed (receipt.OutOfFuel fuel) before after h = absurd h
 kept_committed (receipt.Vetoed object at cycle fuel) before after h = absurd h
+kept_committed (receipt.Barred watch fuel) before after h = absurd h
 
-kept_other : (r : Receipt) (before after : Store) → (IsCommitted r → ⊥) → kept r before after ≡ before
+kept_other : (r : Receipt) (before after : Store) → (IsCommitted r → ⊥) → store_after r before after ≡ before
 kept_other (receipt.Committed answer fuel orders) before after h = absurd (h tt)
 kept_other (receipt.Reverted cause fuel) before after h = refl
 kept_other (receipt.OutOfFuel fuel) before after h = refl
 kept_other (receipt.Vetoed object at cycle fuel) before after h = refl
+kept_other (receipt.Barred watch fuel) before after h = refl
+
+pub barred_changes_nothing : BarredChangesNothing
+barred_changes_nothing (receipt.Committed answer fuel orders) h = absurd h
+barred_changes_nothing (receipt.Reverted cause fuel) h = absurd h
+barred_changes_nothing (receipt.OutOfFuel fuel) h = absurd h
+barred_changes_nothing (receipt.Vetoed object at cycle fuel) h = absurd h
+barred_changes_nothing (receipt.Barred watch fuel) h = (λ c. c, λ v. v, λ before after. refl)
+
+answer_unbarred : (value fuel : ℕ) (v : Verdict) → IsBarred (receipt_of_answer value fuel v) → ⊥
+answer_unbarred value fuel (Approved orders) h = h
+answer_unbarred value fuel (Vetoed o n c) h = h
+
+run_unbarred : (o : Outcome) (fuel : ℕ) (steps : List Step) → IsBarred (receipt_of o fuel steps) → ⊥
+run_unbarred (outcome.Answer value) fuel steps h = answer_unbarred value fuel (verdict steps) h
+run_unbarred (outcome.Reverted cause) fuel steps h = h
+run_unbarred outcome.OutOfFuel fuel steps h = h
+
+one_unbarred : (typed : Typed) (store : Store) (tx : Tx) → IsBarred (receipt_on typed store tx) → ⊥
+unfolding receipt_on
+one_unbarred typed store tx = run_unbarred (run typed store tx).outcome (run typed store tx).fuel (run typed store tx).steps
+
+each_unbarred : (typed : Typed) (store : Store) (txs : List Tx) → Each (λ r. IsBarred r → ⊥) (serial_from typed store txs).receipts
+unfolding serial_from
+each_unbarred typed store [] = tt
+each_unbarred typed store (tx ∷ txs) = (one_unbarred typed store tx, each_unbarred typed (next_store typed store tx) txs)
+
+pub serial_never_bars : SerialNeverBars
+serial_never_bars typed store txs = All_from_Each (λ r. IsBarred r → ⊥) (serial_from typed store txs).receipts (each_unbarred typed store txs)
 
 pub commit_keeps_end : CommitKeepsEnd
-unfolding next
+unfolding next_store
 commit_keeps_end typed store tx h = kept_committed (receipt_on typed store tx) store (run typed store tx).store h
 
 pub only_commit_changes : OnlyCommitChanges
-unfolding next
+unfolding next_store
 only_commit_changes typed store tx h = kept_other (receipt_on typed store tx) store (run typed store tx).store h
 
 commit_of_verdict : (value fuel : ℕ) (steps : List Step) (v : Verdict) → verdict steps ≡ v → (IsCommitted (receipt_of_answer value fuel v) → (o : ℕ) → Free (trace steps o)) × (((o : ℕ) → Free (trace steps o)) → IsCommitted (receipt_of_answer value fuel v))
@@ -81,7 +112,7 @@ pub serial_begins : SerialBegins
 unfolding serial_from
 serial_begins typed = refl
 
-one : (typed : Typed) (store : Store) (tx : Tx) → serial_from typed store (tx ∷ []) ≡ record { receipts = receipt_on typed store tx ∷ []; store = next typed store tx }
+one : (typed : Typed) (store : Store) (tx : Tx) → serial_from typed store (tx ∷ []) ≡ record { receipts = receipt_on typed store tx ∷ []; store = next_store typed store tx }
 unfolding serial_from
 one typed store tx = refl
 

@@ -1,17 +1,17 @@
 -- Swaps that sort a trace by a rank which keeps what is before what, and that a sorted trace is together.
 use Rattle.std.proofs.Common.{◌≡◌, ℕ, suc, zero, ◌+◌, ◌<◌, ◌≤◌, Bool, true, false, cond, nat_lt, List, [], ◌∷◌, ◌++◌, map, filter, length, length-append, get_or, Option, Some, None, option_map, option_and_then, inl, inr, refl, sym, ap, ◌∙◌, arith}
 use Rattle.std.proofs.lemmas.Bool.{ne_eqb, cases_lt, and_from, false_from_ne_true, lt-ltb, le-ltb}
-use Rattle.ecf_verdicts.specs.Laws.{out_of_order, SwapsIntoOrder}
+use Rattle.ecf_verdicts.specs.Laws.{inversion_count, SwapsIntoOrder}
 use Rattle.ecf_lang.specs.declared.run.Step.{Step}
 use Rattle.ecf_verdicts.specs.Before.{before}
 use Rattle.ecf_verdicts.specs.Conflicts.{conflicts}
 use Rattle.ecf_verdicts.specs.Free.{IsTogether}
 use Rattle.ecf_verdicts.specs.Traces.{inv_at}
 use Rattle.std.proofs.lemmas.List.{get_or-map}
+use Rattle.std.proofs.lemmas.Option.{none-some, same_Some}
 use Rattle.ecf_verdicts.specs.Swaps.{may_swap, swap_at, swaps}
-use Rattle.ecf_verdicts.proofs.Conflict.{IsBefore, before_from}
-use Rattle.ecf_verdicts.proofs.Lists.{Each, In, Each_from, Each_at, Each_weaker, Has_from_in}
-use Rattle.ecf_verdicts.proofs.Swapped.{None_Some, Some_same}
+use Rattle.ecf_verdicts.specs.BeforeLemmas.{IsBefore_from, before_from}
+use Rattle.ecf_verdicts.specs.ListLemmas.{Each, In, Each_from, Each_at, Each_weaker, Has_from_in, In_get}
 
 -- each step comes before those that it conflicts with, by rank
 abbrev pub Keeps : (ℕ → ℕ) → List Step → Type 0
@@ -31,7 +31,7 @@ count p t = length (filter p t)
 pub record SortedBy (r : ℕ → ℕ) (t : List Step) (n : ℕ) : Type 0 where
   pub places : List ℕ
   pub result : List Step
-  pub swapped : swaps t places ≡ Some result
+  pub swaps_to_result : swaps t places ≡ Some result
   pub sorted : Sorted r result
   pub among : (x : Step) → In x result → In x t
   pub counts : (p : Step → Bool) → count p result ≡ count p t
@@ -45,15 +45,15 @@ Keeps_from r (s ∷ later) h = (
 )
   where
     before_later : (s : Step) (later : List Step) (i j : ℕ) → before later i j ≡ true → before (s ∷ later) i j ≡ true
-    before_later s later i j e = before_from (s ∷ later) i j (inr (Rattle.ecf_verdicts.proofs.Conflict.IsBefore_from later i j e))
+    before_later s later i j e = before_from (s ∷ later) i j (inr (IsBefore_from later i j e))
 
 swap_there : (a : Step) (t : List Step) (p : ℕ) (u : List Step) → swap_at t p ≡ Some u → swap_at (a ∷ t) (suc p) ≡ Some (a ∷ u)
 unfolding swap_at
-swap_there a [] p u e = absurd (None_Some _ e)
+swap_there a [] p u e = absurd (none-some _ e)
 swap_there a (b ∷ rest) p u e = ap (λ o. option_map (λ v. a ∷ v) o) e
 
 first_there : (a : Step) (ps : List ℕ) (t : List Step) (p : ℕ) (o : Option (List Step)) (u : List Step) → swap_at t p ≡ o → ((v : List Step) → swaps v ps ≡ Some u → swaps (a ∷ v) (map suc ps) ≡ Some (a ∷ u)) → option_and_then (λ v. swaps v ps) o ≡ Some u → option_and_then (λ v. swaps v (map suc ps)) (swap_at (a ∷ t) (suc p)) ≡ Some (a ∷ u)
-first_there a ps t p None u e f k = absurd (None_Some _ k)
+first_there a ps t p None u e f k = absurd (none-some _ k)
 first_there a ps t p (Some v) u e f k = rw (swap_there a t p v e) (f v k)
 
 pub swaps_there : (a : Step) (places : List ℕ) (t u : List Step) → swaps t places ≡ Some u → swaps (a ∷ t) (map suc places) ≡ Some (a ∷ u)
@@ -66,12 +66,12 @@ unfolding swaps swap_at
 swaps_here a b rest places e = rw e refl
 
 first_append : (ps qs : List ℕ) (o : Option (List Step)) (u : List Step) → ((v : List Step) → swaps v ps ≡ Some u → swaps v (ps ++ qs) ≡ swaps u qs) → option_and_then (λ v. swaps v ps) o ≡ Some u → option_and_then (λ v. swaps v (ps ++ qs)) o ≡ swaps u qs
-first_append ps qs None u f e = absurd (None_Some _ e)
+first_append ps qs None u f e = absurd (none-some _ e)
 first_append ps qs (Some v) u f e = f v e
 
 pub swaps_append : (ps qs : List ℕ) (t u : List Step) → swaps t ps ≡ Some u → swaps t (ps ++ qs) ≡ swaps u qs
 unfolding swaps
-swaps_append [] qs t u e = ap (λ v. swaps v qs) (Some_same _ _ e)
+swaps_append [] qs t u e = ap (λ v. swaps v qs) (same_Some _ _ e)
 swaps_append (p ∷ ps) qs t u e = first_append ps qs (swap_at t p) u (λ v f. swaps_append ps qs v u f) e
 
 passes : (r : ℕ → ℕ) (s x : Step) → (conflicts s x ≡ true → r s.inv < r x.inv) → r x.inv < r s.inv → may_swap s x ≡ true
@@ -109,14 +109,14 @@ length_suc (p ∷ ps) = ap suc (length_suc ps)
 -- a step moves to the right past those of lower rank
 sink : (r : ℕ → ℕ) (s : Step) (u : List Step) → Sorted r u → Each (λ x. conflicts s x ≡ true → r s.inv < r x.inv) u → SortedBy r (s ∷ u) (count (lower r s) u)
 unfolding swaps
-sink r s [] sorted ok = record { places = []; result = s ∷ []; swapped = refl; sorted = (tt, tt); among = λ x i. i; counts = λ p. refl; long = refl }
+sink r s [] sorted ok = record { places = []; result = s ∷ []; swaps_to_result = refl; sorted = (tt, tt); among = λ x i. i; counts = λ p. refl; long = refl }
 sink r s (x ∷ xs) sorted ok = elim (cases_lt (r x.inv) (r s.inv)) [
   | inl less ↦
       let deep = sink r s xs sorted.1 ok.1 in
       record {
         places = zero ∷ map suc deep.places;
         result = x ∷ deep.result;
-        swapped = swaps_here s x xs (map suc deep.places) (passes r s x ok.0 less) ∙ swaps_there x deep.places (s ∷ xs) deep.result deep.swapped;
+        swaps_to_result = swaps_here s x xs (map suc deep.places) (passes r s x ok.0 less) ∙ swaps_there x deep.places (s ∷ xs) deep.result deep.swaps_to_result;
         sorted = (Each_from _ deep.result (λ y i. elim (deep.among y i) [ inl e ↦ omega (arith, less, ap (λ (z : Step). r z.inv) e) | inr k ↦ Each_at _ xs y sorted.0 k ]), deep.sorted);
         among = λ y i. elim i [ inl e ↦ inr (inl e) | inr k ↦ elim (deep.among y k) [ inl e ↦ inl e | inr l ↦ inr (inr l) ] ];
         counts = λ p. count_more p x deep.result (s ∷ xs) (deep.counts p) ∙ count_swap p x s xs;
@@ -125,7 +125,7 @@ sink r s (x ∷ xs) sorted ok = elim (cases_lt (r x.inv) (r s.inv)) [
   | inr more ↦ record {
     places = [];
     result = s ∷ x ∷ xs;
-    swapped = refl;
+    swaps_to_result = refl;
     sorted = ((more, Each_weaker _ _ xs (λ y h. omega (arith, h, more)) sorted.0), sorted);
     among = λ y i. i;
     counts = λ p. refl;
@@ -133,26 +133,21 @@ sink r s (x ∷ xs) sorted ok = elim (cases_lt (r x.inv) (r s.inv)) [
   }
 ]
 
-pub sort : (r : ℕ → ℕ) (t : List Step) → Keeps r t → SortedBy r t (out_of_order r t)
-unfolding swaps out_of_order
-sort r [] keeps = record { places = []; result = []; swapped = refl; sorted = tt; among = λ x i. i; counts = λ p. refl; long = refl }
+pub sort : (r : ℕ → ℕ) (t : List Step) → Keeps r t → SortedBy r t (inversion_count r t)
+unfolding swaps inversion_count
+sort r [] keeps = record { places = []; result = []; swaps_to_result = refl; sorted = tt; among = λ x i. i; counts = λ p. refl; long = refl }
 sort r (s ∷ later) keeps =
     let first = sort r later keeps.1 in
     let second = sink r s first.result first.sorted (Each_from _ first.result (λ x i. Each_at _ later x keeps.0 (first.among x i))) in
     record {
       places = map suc first.places ++ second.places;
       result = second.result;
-      swapped = swaps_append (map suc first.places) second.places (s ∷ later) (s ∷ first.result) (swaps_there s first.places later first.result first.swapped) ∙ second.swapped;
+      swaps_to_result = swaps_append (map suc first.places) second.places (s ∷ later) (s ∷ first.result) (swaps_there s first.places later first.result first.swaps_to_result) ∙ second.swaps_to_result;
       sorted = second.sorted;
       among = λ x i. elim (second.among x i) [ inl e ↦ inl e | inr k ↦ inr (first.among x k) ];
       counts = λ p. second.counts p ∙ count_more p s first.result later (first.counts p);
       long = omega (arith, length-append (map suc first.places) second.places, length_suc first.places, first.long, second.long, first.counts (lower r s));
     }
-
-pub In_get : (v : List Step) (k : ℕ) (d : Step) → k < length v → In (get_or v k d) v
-In_get [] k d h = absurd (omega arith)
-In_get (x ∷ xs) zero d h = inl refl
-In_get (x ∷ xs) (suc k) d h = inr (In_get xs k d (omega arith))
 
 pub sorted_at : (r : ℕ → ℕ) (v : List Step) (i j : ℕ) (d : Step) → Sorted r v → i ≤ j → j < length v → r (get_or v i d).inv ≤ r (get_or v j d).inv
 sorted_at r [] i j d s h k = absurd (omega arith)
@@ -182,4 +177,4 @@ together_from r (x ∷ xs) apart sorted = record { between = together_at r (x �
 pub swaps_into_order : SwapsIntoOrder
 swaps_into_order t r keeps =
     let s = sort r t (Keeps_from r t keeps) in
-    (s.places, s.result, record { swapped = s.swapped; in_order = λ i j d a b. sorted_at r s.result i j d s.sorted a b }, s.long)
+    (s.places, s.result, record { swaps_to_result = s.swaps_to_result; in_order = λ i j d a b. sorted_at r s.result i j d s.sorted a b }, s.long)

@@ -3,17 +3,17 @@ use Rattle.std.proofs.Common.{◌≡◌, ℕ, refl, arith}
 use Rattle.ecf_verdicts.specs.Before.{before}
 use Rattle.ecf_verdicts.specs.Cases.{pays_first, PaysFirst, ClearsFirst, CallbackFirst, three_in_a_ring, ThreeInARing, apart, ApartYetFree, equal_values, EqualValuesConflict, CalledInside, called_outside, CalledOutside, TwoReaders, first_reader_again, FirstReaderAgain, TwoCalls, two_objects, TwoObjects, two_cycles, TwoCycles, start_outside, StartOutside, reverts_later, RevertsLater}
 use Rattle.ecf_verdicts.specs.Conflicts.{same_cell, conflicts}
-use Rattle.ecf_verdicts.specs.Cycles.{least_before, is_among, up_to, from, until, least, begun_at_least, walk, cycle_in, cycle, is_placed, shortest, at}
+use Rattle.ecf_verdicts.specs.Cycles.{least_before, is_among, up_to, from, until, minimum, rotation_to_minimum, walk, cycle_in, cycle, is_placed, shortest_part, at}
 use Rattle.ecf_verdicts.specs.Free.{IsTogether}
-use Rattle.ecf_verdicts.specs.Placing.{waits, next_placed, without, place, placing}
+use Rattle.ecf_verdicts.specs.Placing.{waits, next_placed, without, placing_from, placing}
 use Rattle.ecf_verdicts.specs.Swaps.{may_swap, swap_at, swaps}
-use Rattle.ecf_verdicts.specs.Traces.{trace, join, members, objects}
+use Rattle.ecf_verdicts.specs.Traces.{trace, with_number, members, objects}
 use Rattle.ecf_verdicts.specs.Verdicts.{verdict, orders, vetoed_object}
 use Rattle.ecf_verdicts.proofs.AtLaws.{not_free}
 
 -- all that a verdict computes with
 computing : ℕ
-unfolding before same_cell conflicts least_before is_among up_to from until least begun_at_least walk cycle_in cycle is_placed shortest at waits next_placed without place placing may_swap swap_at swaps trace join members objects orders vetoed_object verdict
+unfolding before same_cell conflicts least_before is_among up_to from until minimum rotation_to_minimum walk cycle_in cycle is_placed shortest_part at waits next_placed without placing_from placing may_swap swap_at swaps trace with_number members objects orders vetoed_object verdict
 computing = 0
 
 pub pays_first_case : PaysFirst

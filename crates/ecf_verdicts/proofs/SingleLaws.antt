@@ -3,15 +3,15 @@ use Rattle.std.proofs.Common.{◌≡◌, ℕ, ◌≤◌, Bool, false, not, List,
 use Rattle.std.proofs.lemmas.Bool.{eq-eqb, le-ltb}
 use Rattle.ecf_lang.specs.declared.run.Step.{Step}
 use Rattle.ecf_verdicts.specs.Laws.{SingleApproved}
-use Rattle.ecf_verdicts.specs.Placing.{waits, next_placed, without, place, placing}
-use Rattle.ecf_verdicts.specs.Traces.{trace, join, members, objects}
+use Rattle.ecf_verdicts.specs.Placing.{waits, next_placed, without, placing_from, placing}
+use Rattle.ecf_verdicts.specs.Traces.{trace, with_number, members, objects}
 use Rattle.ecf_verdicts.specs.Verdicts.{Approved, verdict, orders, vetoed_object}
-use Rattle.ecf_verdicts.proofs.Conflict.{before_self}
-use Rattle.ecf_verdicts.proofs.Place.{place_some, is_placed_from}
-use Rattle.ecf_verdicts.proofs.Lists.{Each, Each_from_all, Each_filter}
+use Rattle.ecf_verdicts.specs.BeforeLemmas.{before_self}
+use Rattle.ecf_verdicts.specs.PlacingLemmas.{placing_some, is_placed_from}
+use Rattle.ecf_verdicts.specs.ListLemmas.{Each, Each_from_all, Each_filter}
 
 pub members_of_one : (t : List Step) (i : ℕ) → Each (λ s. s.inv ≡ i) t → (members t ≡ []) ⊎ (members t ≡ i ∷ [])
-unfolding members join
+unfolding members with_number
 members_of_one [] i h = inl refl
 members_of_one (s ∷ rest) i h = elim (members_of_one rest i h.1) [
   | inl e ↦ inr (rw (e, h.0) refl)
@@ -19,7 +19,7 @@ members_of_one (s ∷ rest) i h = elim (members_of_one rest i h.1) [
 ]
 
 rest_of_none : (t : List Step) → members t ≡ [] → (placing t).rest ≡ []
-unfolding placing place
+unfolding placing placing_from
 rest_of_none t e = rw e refl
 
 next_of_one : (t : List Step) (i : ℕ) → next_placed t (i ∷ []) ≡ Some i
@@ -31,8 +31,8 @@ unfolding without
 without_one i = rw (eq-eqb i i refl) refl
 
 rest_of_one : (t : List Step) (i : ℕ) → members t ≡ i ∷ [] → (placing t).rest ≡ []
-unfolding placing place
-rest_of_one t i e = rw e (ap (λ p. p.rest) (place_some t 0 (i ∷ []) i (next_of_one t i)) ∙ ap (λ u. (place t 0 u).rest) (without_one i))
+unfolding placing placing_from
+rest_of_one t i e = rw e (ap (λ p. p.rest) (placing_some t 0 (i ∷ []) i (next_of_one t i)) ∙ ap (λ u. (placing_from t 0 u).rest) (without_one i))
 
 pub single_placed : (t : List Step) (i : ℕ) → Each (λ s. s.inv ≡ i) t → (placing t).rest ≡ []
 single_placed t i h = elim (members_of_one t i h) [ inl e ↦ rest_of_none t e | inr e ↦ rest_of_one t i e ]

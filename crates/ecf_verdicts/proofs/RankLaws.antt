@@ -1,7 +1,7 @@
 -- The place of a number in a list, as a rank.
 use Rattle.std.proofs.Common.{◌≡◌, ℕ, suc, cond, eqb, List, [], ◌∷◌, inl, inr, refl, sym, ◌∙◌, arith}
 use Rattle.std.proofs.lemmas.Bool.{eq-eqb, ne_eqb, cases_eq}
-use Rattle.ecf_verdicts.proofs.Lists.{In}
+use Rattle.ecf_verdicts.specs.ListLemmas.{In}
 
 -- the place of the first i
 pub rank : List ℕ → ℕ → ℕ

@@ -4,7 +4,7 @@ use Rattle.std.proofs.lemmas.Bool.{or_cases, both_ways, or_left, or_right, and_p
 use Rattle.ecf_lang.specs.declared.run.Step.{Step}
 use Rattle.ecf_verdicts.specs.Conflicts.{conflicts}
 use Rattle.ecf_verdicts.specs.Before.{before}
-use Rattle.ecf_verdicts.proofs.Lists.{Has, Has_weaker, Has_from_any, any_from_Has}
+use Rattle.ecf_verdicts.specs.ListLemmas.{Has, Has_weaker, Has_from_any, any_from_Has}
 
 -- conflicting steps are of different invocations
 pub conflicts_differ : (a b : Step) → conflicts a b ≡ true → a.inv ≡ b.inv → ⊥

@@ -1,0 +1,5 @@
+use Rattle.ecf_verdicts.proofs.FreeLaws as laws
+use Rattle.ecf_verdicts.proofs.free_exactly_where_ordered.Goals as goal
+
+pub returns : goal.returns
+returns c = laws.free_exactly_where_ordered
