@@ -13,7 +13,7 @@ use Rattle.ecf_interp.specs.Built.{IsBuilt}
 use Rattle.ecf_interp.proofs.OneInvocation.{steps_are_of_the_first}
 use Rattle.ecf_texts.specs.Entries.{OneCall}
 use Rattle.ecf_verdicts.specs.Receipts.{receipt_of_answer, receipt_of}
-use Rattle.ecf_verdicts.proofs.Single.{single_approved}
+use Rattle.ecf_verdicts.proofs.SingleLaws.{single_approved}
 
 -- a run of one invocation is committed where it answers
 pub committed : (answer fuel : ℕ) (steps : List Step) → All (λ s. s.inv ≡ 0) steps → Committed answer fuel [] ≡ receipt_of (Answer answer) fuel steps

@@ -10,7 +10,7 @@ use Rattle.ecf_lang.specs.Meaning.{run}
 use Rattle.ecf_lang.specs.Store.{Store}
 use Rattle.ecf_verdicts.specs.Free.{Free}
 use Rattle.ecf_verdicts.specs.Journals.{IsLegal, along}
-use Rattle.ecf_verdicts.specs.Receipts.{receipt_on, next, Serial, serial}
+use Rattle.ecf_verdicts.specs.Receipts.{receipt_on, next_store, Serial, serial}
 use Rattle.ecf_verdicts.specs.SerialLaws.{IsAnswer, IsVetoed}
 use Rattle.ecf_verdicts.specs.Traces.{trace}
 use Rattle.ecf_texts.specs.Journal.{journal_text}
@@ -33,7 +33,7 @@ abbrev pub VetoesHarm : Typed → Store → List Tx → Type 0
 VetoesHarm typed store [] = Unit {0}
 VetoesHarm typed store (tx ∷ txs) =
     (IsVetoed (receipt_on typed store tx) ↔ IsAnswer (run typed store tx).outcome × ((o : ℕ) × (Free (trace (run typed store tx).steps o) → ⊥)))
-    × VetoesHarm typed (next typed store tx) txs
+    × VetoesHarm typed (next_store typed store tx) txs
 
 -- the text is a journal of these transactions: each stands once, in its submitter's order
 pub record IsJournal (typed : Typed) (txs : List Tx) (stop : Option Stop) (text : List ℕ) : Type 0 where

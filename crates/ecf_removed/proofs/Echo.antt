@@ -14,8 +14,8 @@ use Rattle.ecf_lang.specs.Part.{State, Control, Done, Exit, Reverts, RunsOut, Pa
 use Rattle.ecf_lang.specs.Alone.{of_invocation}
 use Rattle.ecf_laws.specs.Parts.{led}
 use Rattle.ecf_laws.specs.Replay.{after_steps, AreSeen}
-use Rattle.ecf_verdicts.proofs.Lists.{Each}
-use Rattle.ecf_removed.specs.Held.{block}
+use Rattle.ecf_verdicts.specs.ListLemmas.{Each}
+use Rattle.ecf_verdicts.specs.Blocks.{block}
 use Rattle.ecf_removed.specs.Removed.{DoesAlone}
 use Rattle.ecf_removed.proofs.Pieces.{get_taken, back_undone, back_long, after_steps-append, seen_first, seen_last}
 

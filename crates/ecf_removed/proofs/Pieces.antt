@@ -9,7 +9,7 @@ use Rattle.ecf_lang.specs.declared.run.Invocation.{Invocation}
 use Rattle.ecf_lang.specs.Store.{Store, Cells}
 use Rattle.ecf_lang.specs.Part.{with_change, as_undone}
 use Rattle.ecf_laws.specs.Replay.{after_step, after_steps, AreSeen}
-use Rattle.ecf_removed.specs.Held.{block}
+use Rattle.ecf_verdicts.specs.Blocks.{block}
 
 -- an invocation that is there
 pub get_in : {X : Type 0} (xs : List X) (n : ℕ) → n < length xs → (x : X) × (slice_get xs n ≡ Some x)

@@ -19,8 +19,8 @@ use Rattle.ecf_lang.specs.Alone.{of_invocation, lone_frame, inside, by_itself, l
 use Rattle.ecf_laws.specs.Parts.{led}
 use Rattle.ecf_laws.specs.Replay.{after_steps, AreSeen}
 use Rattle.ecf_laws.proofs.Options.{some_is}
-use Rattle.ecf_verdicts.proofs.Lists.{Each}
-use Rattle.ecf_removed.specs.Held.{block}
+use Rattle.ecf_verdicts.specs.ListLemmas.{Each}
+use Rattle.ecf_verdicts.specs.Blocks.{block}
 use Rattle.ecf_removed.specs.Removed.{DoesAlone}
 use Rattle.ecf_removed.proofs.Pieces.{get_old, get_new, changed_same, changed_other, changed_long}
 use Rattle.ecf_removed.proofs.Echo as echo

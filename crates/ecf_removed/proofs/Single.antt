@@ -12,7 +12,7 @@ use Rattle.ecf_lang.specs.Store.{Store, set}
 use Rattle.ecf_lang.specs.Part.{State, Control, Done, Exit, RunsOut, Part, after, ◌>>=◌, ◌>>◌, pure, pay, read_cell, write_cell, note, with_change, with_charge, with_heard, with_read, value_now}
 use Rattle.ecf_lang.specs.Alone.{next_answer, hear, heard_count}
 use Rattle.ecf_laws.specs.Parts.{led}
-use Rattle.ecf_removed.specs.Held.{block}
+use Rattle.ecf_verdicts.specs.Blocks.{block}
 use Rattle.ecf_removed.proofs.Pieces.{changed_same, changed_other, changed_long, block_own, block_other}
 use Rattle.ecf_removed.proofs.Echo as echo
 

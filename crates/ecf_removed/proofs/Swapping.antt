@@ -5,8 +5,8 @@ use Rattle.ecf_lang.specs.declared.cell.Cell.{Cell}
 use Rattle.ecf_lang.specs.declared.run.Step.{Step}
 use Rattle.ecf_verdicts.specs.Conflicts.{conflicts, same_cell}
 use Rattle.ecf_verdicts.specs.Swaps.{may_swap}
-use Rattle.ecf_verdicts.proofs.Swapped.{swaps_keep, no_conflict, eqb_sym}
-use Rattle.ecf_verdicts.proofs.SwapLaws.{may_swap_sym, other_inv, same_cell_parts}
+use Rattle.ecf_verdicts.specs.SwapLemmas.{swaps_keep, no_conflict, eqb_sym}
+use Rattle.ecf_verdicts.specs.SwapLemmas.{may_swap_sym, other_inv, same_cell_parts}
 use Rattle.ecf_removed.specs.Held.{Held, held_after, held_after_all, ReadsGive, SwapsKeepReads, SwapsKeepEnds}
 
 pub same_cell_is : (a b : Cell) → same_cell a b ≡ true → a ≡ b

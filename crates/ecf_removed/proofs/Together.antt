@@ -24,11 +24,12 @@ use Rattle.ecf_verdicts.specs.Free.{Free}
 use Rattle.ecf_verdicts.specs.Placing.{placing}
 use Rattle.ecf_verdicts.specs.SerialLaws.{IsAnswer}
 use Rattle.ecf_verdicts.specs.Traces.{members, trace}
-use Rattle.ecf_verdicts.proofs.Lists.{Each, In, Each_at, Each_from, Each_from_all, All_from_Each, Has_in, In_filter, In_filter_from}
-use Rattle.ecf_verdicts.proofs.Members.{In_members_of}
-use Rattle.ecf_verdicts.proofs.PlaceLaws.{placed_in}
-use Rattle.ecf_verdicts.proofs.SerialProved.{committed_where_free}
-use Rattle.ecf_removed.specs.Held.{Held, held_after, held_after_all, ReadsGive, block, blocks, BlocksKeep, TraceAlone}
+use Rattle.ecf_verdicts.specs.ListLemmas.{Each, In, Each_at, Each_from, Each_from_all, All_from_Each, Has_in, In_filter, In_filter_from}
+use Rattle.ecf_verdicts.proofs.MemberLaws.{In_members_of}
+use Rattle.ecf_verdicts.proofs.PlacingLaws.{placed_in}
+use Rattle.ecf_verdicts.proofs.ReceiptLaws.{committed_where_free}
+use Rattle.ecf_removed.specs.Held.{Held, held_after, held_after_all, ReadsGive, BlocksKeep, TraceAlone}
+use Rattle.ecf_verdicts.specs.Blocks.{block, blocks}
 use Rattle.ecf_removed.specs.Removed.{Apart, ApartMakesStore, DoesNext, EachDoesNext, before_others, first_alone, apart, ApartGoesOn, DoesAlone, InvocationsHaveMethods, LoneDoesAsRecorded, StepsOnOwnObject, AsRecorded, CallbacksRemovedFrom, CallbacksRemoved}
 use Rattle.ecf_removed.proofs.Blocks.{free_blocks_keep}
 use Rattle.ecf_removed.proofs.Echo as echo
@@ -183,9 +184,9 @@ module _ (typed : Typed) (store : Store) (tx : Tx) (object value : ℕ) (answers
         does = plays.does;
       }
 
-  each_member : Each (Member typed invocations steps t) (placing t).placed
+  each_member : Each (Member typed invocations steps t) (placing t).order
   unfolding placing
-  each_member = Each_from (Member typed invocations steps t) (placing t).placed (λ inv h. member inv (placed_in t _ (members t) inv h))
+  each_member = Each_from (Member typed invocations steps t) (placing t).order (λ inv h. member inv (placed_in t _ (members t) inv h))
 
   module _ (before : Store) (opening : IsStore store) (is_store : IsStore before) (free : Free t) (agree : (cell : Cell) → cell.object ≡ object → read before cell ≡ read store cell) where
     traced : TraceAlone (read store) (read before) steps object
@@ -194,22 +195,22 @@ module _ (typed : Typed) (store : Store) (tx : Tx) (object value : ℕ) (answers
     kept : BlocksKeep (read before) t
     kept = free_blocks_keep t free (read before) traced.reads
 
-    turns : InTurn typed invocations steps t (placing t).placed before (apart typed invocations (placing t).placed before)
-    turns = in_turn typed invocations steps t (placing t).placed before is_store each_member kept.reads
+    turns : InTurn typed invocations steps t (placing t).order before (apart typed invocations (placing t).order before)
+    turns = in_turn typed invocations steps t (placing t).order before is_store each_member kept.reads
 
-    at_end : (cell : Cell) → read (apart typed invocations (placing t).placed before).fields cell ≡ held_after_all t (read before) cell
+    at_end : (cell : Cell) → read (apart typed invocations (placing t).order before).fields cell ≡ held_after_all t (read before) cell
     at_end cell = turns.held cell ∙ ap (λ k. k cell) kept.ends
 
     run_end : read (run typed store tx).store ≡ held_after_all steps (read store)
     run_end = ap read (ends_with_writes typed store tx ∙ ap (with_writes store) (writes_are_of_steps typed store tx value answers)) ∙ read_after steps store opening
 
-    pub next_does : (taken more : List ℕ) (inv : ℕ) → (placing t).placed ≡ taken ++ inv ∷ more → DoesNext typed store tx inv (apart typed invocations taken before).fields
+    pub next_does : (taken more : List ℕ) (inv : ℕ) → (placing t).order ≡ taken ++ inv ∷ more → DoesNext typed store tx inv (apart typed invocations taken before).fields
     next_does taken more inv e = let n = turns.next taken more inv e in record { one = n.one; is = n.is; does = n.does }
 
-    pub removed : CallbacksRemovedFrom typed store tx object before (apart typed invocations (placing t).placed before)
+    pub removed : CallbacksRemovedFrom typed store tx object before (apart typed invocations (placing t).order before)
     removed = record {
       numbers = turns.numbers;
-      recorded = All_from_Each (AsRecorded invocations steps) (apart typed invocations (placing t).placed before).runs turns.recorded;
+      recorded = All_from_Each (AsRecorded invocations steps) (apart typed invocations (placing t).order before).runs turns.recorded;
       inside = λ cell on. at_end cell ∙ sym (traced.ends cell on) ∙ sym (ap (λ k. k cell) run_end);
       outside = λ cell off. at_end cell ∙ traced.elsewhere cell off;
     }

@@ -1,8 +1,8 @@
 -- Steps gone through with what each cell holds.
-use Rattle.std.specs.Prelude.{⊤, ◌≡◌, ℕ, false, ◌&&◌, ◌==◌, if◌then◌else◌, List, [], ◌∷◌, Some, filter}
-use Rattle.std.specs.List.{flat_map}
+use Rattle.std.specs.Prelude.{⊤, ◌≡◌, ℕ, false, ◌&&◌, if◌then◌else◌, List, [], ◌∷◌, Some}
 use Rattle.ecf_lang.specs.declared.cell.Cell.{Cell}
 use Rattle.ecf_lang.specs.declared.run.Step.{Step}
+use Rattle.ecf_verdicts.specs.Blocks.{blocks}
 use Rattle.ecf_verdicts.specs.Conflicts.{same_cell}
 use Rattle.ecf_verdicts.specs.Free.{Free}
 use Rattle.ecf_verdicts.specs.Placing.{placing}
@@ -27,14 +27,6 @@ abbrev pub ReadsGive : Held → List Step → Type 0
 ReadsGive held [] = ⊤
 ReadsGive held (step ∷ steps) = (step.write ≡ false → step.value ≡ held step.cell) × ReadsGive (held_after step held) steps
 
--- the steps of one invocation
-abbrev pub block : List Step → ℕ → List Step
-block steps inv = filter (λ s. s.inv == inv) steps
-
--- the steps of one invocation after those of another, in this order
-abbrev pub blocks : List Step → List ℕ → List Step
-blocks steps order = flat_map (block steps) order
-
 -- legal swaps keep what every read gives
 abbrev pub SwapsKeepReads : Type 0
 SwapsKeepReads = (t : List Step) (places : List ℕ) (u : List Step) → swaps t places ≡ Some u → (held : Held) → ReadsGive held t → ReadsGive held u
@@ -45,8 +37,8 @@ SwapsKeepEnds = (t : List Step) (places : List ℕ) (u : List Step) → swaps t 
 
 -- the steps of a free trace by blocks in its named order: its reads give the same, and its cells end the same
 pub record BlocksKeep (held : Held) (t : List Step) : Type 0 where
-  pub reads : ReadsGive held (blocks t (placing t).placed)
-  pub ends : held_after_all (blocks t (placing t).placed) held ≡ held_after_all t held
+  pub reads : ReadsGive held (blocks t (placing t).order)
+  pub ends : held_after_all (blocks t (placing t).order) held ≡ held_after_all t held
 
 -- so it is of each free trace whose reads give what the cells hold
 abbrev pub FreeBlocksKeep : Type 0

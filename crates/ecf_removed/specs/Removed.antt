@@ -15,7 +15,7 @@ use Rattle.ecf_verdicts.specs.Placing.{placing}
 use Rattle.ecf_verdicts.specs.Receipts.{receipt_on}
 use Rattle.ecf_verdicts.specs.SerialLaws.{IsCommitted}
 use Rattle.ecf_verdicts.specs.Traces.{trace}
-use Rattle.ecf_removed.specs.Held.{block}
+use Rattle.ecf_verdicts.specs.Blocks.{block}
 
 -- invocations run alone, each by its number, and the fields after the last
 pub record Apart : Type 0 where
@@ -83,7 +83,7 @@ pub record AsRecorded (invocations : List Invocation) (steps : List Step) (r : �
 -- what it is for the callbacks of a run to be removed from an object, from fields before it
 pub record CallbacksRemovedFrom (typed : Typed) (store : Store) (tx : Tx) (object : ℕ) (before : Store) (ends : Apart) : Type 0 where
   -- the object's members, in the named order
-  pub numbers : map (λ r. r.0) ends.runs ≡ (placing (trace (run typed store tx).steps object)).placed
+  pub numbers : map (λ r. r.0) ends.runs ≡ (placing (trace (run typed store tx).steps object)).order
   -- each answer and each list of steps, values included, is the recorded one
   pub recorded : All (AsRecorded (run typed store tx).invocations (run typed store tx).steps) ends.runs
   -- on the object's cells the fields are the run's end
@@ -98,7 +98,7 @@ CallbacksRemoved = (typed : Typed) (store : Store) (tx : Tx) (object : ℕ) (bef
     IsStore store → IsStore before → IsCommitted (receipt_on typed store tx) →
     ((cell : Cell) → cell.object ≡ object → read before cell ≡ read store cell) →
     CallbacksRemovedFrom typed store tx object before
-    (apart typed (run typed store tx).invocations (placing (trace (run typed store tx).steps object)).placed before)
+    (apart typed (run typed store tx).invocations (placing (trace (run typed store tx).steps object)).order before)
 
 -- the invocation of that number does alone, on these fields, as recorded
 pub record DoesNext (typed : Typed) (store : Store) (tx : Tx) (inv : ℕ) (fields : Store) : Type 0 where
@@ -111,7 +111,7 @@ abbrev pub EachDoesNext : Type 0
 EachDoesNext = (typed : Typed) (store : Store) (tx : Tx) (object : ℕ) (before : Store) →
     IsStore store → IsStore before → IsCommitted (receipt_on typed store tx) →
     ((cell : Cell) → cell.object ≡ object → read before cell ≡ read store cell) →
-    (taken more : List ℕ) (inv : ℕ) → (placing (trace (run typed store tx).steps object)).placed ≡ taken ++ inv ∷ more →
+    (taken more : List ℕ) (inv : ℕ) → (placing (trace (run typed store tx).steps object)).order ≡ taken ++ inv ∷ more →
     DoesNext typed store tx inv (apart typed (run typed store tx).invocations taken before).fields
 
 -- invocations alone leave a store a store
