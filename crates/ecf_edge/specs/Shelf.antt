@@ -6,6 +6,8 @@ use Rattle.ecf_edge.specs.Count.{counted_up}
 use Rattle.ecf_edge.specs.Plan.{Plan, next_fails, after_call}
 use Rattle.ecf_edge.specs.declared.shelf.Fetch.{Fetch}
 use Rattle.ecf_edge.specs.declared.shelf.Fetch.TheVariants.{Missing, TooLong, Failed, NoMemory}
+use Rattle.ecf_edge.specs.declared.source.Incomplete.{Incomplete}
+use Rattle.ecf_edge.specs.declared.source.Incomplete.TheVariants as incomplete
 
 -- named contents, each a name and its bytes: of two with one name the first counts
 abbrev pub Files : Type 0
@@ -27,6 +29,26 @@ HoldsNoneUnder contents name = IfSome contents (λ files. content_of files name 
 -- where they are told, more bytes than this are held under the name
 abbrev pub HoldsMoreUnder : Option Files → List ℕ → ℕ → Type 0
 HoldsMoreUnder contents name most = IfSome contents (λ files. IsSomeAnd (content_of files name) (λ bytes. most < length bytes))
+
+-- how many fetches have failed, after one more with this answer
+abbrev pub faults_after_fetch : {T : Type 0} → ℕ → Result T Fetch → ℕ
+faults_after_fetch faults (Err Failed) = counted_up faults
+faults_after_fetch faults answer = faults
+
+-- how many found a content that was too long, after one more with this answer
+abbrev pub long_answers_after_fetch : {T : Type 0} → ℕ → Result T Fetch → ℕ
+long_answers_after_fetch long_answers (Err TooLong) = counted_up long_answers
+long_answers_after_fetch long_answers answer = long_answers
+
+-- how many found nothing under the name, after one more with this answer
+abbrev pub absences_after_fetch : {T : Type 0} → ℕ → Result T Fetch → ℕ
+absences_after_fetch absences (Err Missing) = counted_up absences
+absences_after_fetch absences answer = absences
+
+-- the answer of a fetch where its content wasn't read whole
+abbrev pub fault_of_incomplete : Incomplete → Fetch
+fault_of_incomplete incomplete.OverLimit = TooLong
+fault_of_incomplete incomplete.Failed = Failed
 
 -- names and bytes, as contents
 abbrev pub files_of : List (String Global × Vec ℕ Global) → Files

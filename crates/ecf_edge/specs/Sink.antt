@@ -1,5 +1,8 @@
 -- What writes add to a sink, and what a sink in memory takes.
-use Rattle.std.specs.Prelude.{ℕ, ◌≡◌, List, ◌++◌, length, min, Option, None, Some}
+use Rattle.std.specs.Prelude.{ℕ, ◌≡◌, List, ◌++◌, length, min, Option, None, Some, Result, Ok, Err}
+use Rattle.ecf_edge.specs.Count.{counted_up}
+use Rattle.ecf_edge.specs.declared.sink.WriteFault.{WriteFault}
+use Rattle.ecf_edge.specs.declared.sink.WriteFault.TheVariants.{Failed, NoMemory}
 use Rattle.ecf_edge.specs.Plan.{Plan}
 
 -- what is held and then this text, where it is told
@@ -17,6 +20,12 @@ pub record GrewByPrefix (before : Option (List ℕ)) (text : List ℕ) (after : 
   pub rest : List ℕ
   pub whole : text ≡ written ++ rest
   pub grew : Grew before written after
+
+-- how many writes have failed, after one more with this answer: a want of memory isn't counted
+abbrev pub faults_after_write : {T : Type 0} → ℕ → Result T WriteFault → ℕ
+faults_after_write faults (Ok count) = faults
+faults_after_write faults (Err Failed) = counted_up faults
+faults_after_write faults (Err NoMemory) = faults
 
 -- a sink in memory: the bytes held, and the most that one write takes
 pub record StepSink : Type 0 where

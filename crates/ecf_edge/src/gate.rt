@@ -1,4 +1,5 @@
-//! The moments of a run at which a test may hold a thread.
+//! The moments of a run at which a test may hold a thread, or have it give up.
+ghost use Rattle.std.specs.Prelude.{◌≡◌, IsTrue, false};
 
 /// A moment in the life of a row, which each variant names.
 #[derive(Clone, Copy, Debug, PartialEq, Eq)]
@@ -25,4 +26,28 @@ pub struct OpenGate;
 
 impl Gate for OpenGate {
     fn at(&self, _point: Point) {}
+}
+
+/// Whether a thread is to give up its work early, as a test may want. A thread asks after each call of a gate.
+pub trait Quit {
+    /// Whether true may be answered at all. It is one fact for the whole life of the object.
+    ghost may: { Self → Type 0 };
+
+    /// Whether the thread that came to this point is to give up.
+    fn quits(&self, point: Point) -> bool
+        ensures { IsTrue result → may self.now };
+}
+
+/// What lets each thread go on to its end.
+#[derive(Clone, Copy, Debug)]
+pub struct NeverQuit;
+
+impl Quit for NeverQuit {
+    ghost may = { λ _. ⊥ };
+
+    fn quits(&self, _point: Point) -> bool
+        ensures { result ≡ false }
+    {
+        false
+    }
 }

@@ -8,11 +8,11 @@ mod shelf;
 mod sink;
 mod source;
 
-pub use gate::{Gate, OpenGate, Point};
+pub use gate::{Gate, NeverQuit, OpenGate, Point, Quit};
 pub use plan::count_up;
 pub use shelf::{Fetch, MemShelf, Shelf, SureShelf};
 pub use sink::{MemSink, Sink, SureSink, WriteFault, put_all};
-pub use source::{Ending, Failed, MemSource, Reading, Source, SureSource, read_all};
+pub use source::{Ending, Failed, Incomplete, MemSource, Reading, Source, SureSource, read_all};
 
 #[cfg(test)]
 mod tests;

@@ -1,12 +1,12 @@
 //! Shelves of named contents: the trait, and two shelves in memory.
 ghost use Rattle.std.specs.Prelude.{◌≡◌, ◌≢◌, ℕ, ◌≤◌, ◌<◌, List, Option, length, vec_len, Some, IfOk, IsErrOf};
 ghost use Rattle.std.specs.Option.{option_copied};
-ghost use Rattle.ecf_edge.specs.Count.{Rose};
 ghost use Rattle.ecf_edge.specs.Plan.{fresh_plan};
-ghost use Rattle.ecf_edge.specs.Shelf.{Files, HoldsUnder, HoldsNoneUnder, HoldsMoreUnder, files_of, content_of, Answers, due_from, due_from_faulty, fresh_shelf, after_fetch, after_faulty_fetch};
+ghost use Rattle.ecf_edge.specs.Shelf.{Files, HoldsUnder, HoldsNoneUnder, HoldsMoreUnder, faults_after_fetch, long_answers_after_fetch, absences_after_fetch, files_of, content_of, fault_of_incomplete, Answers, due_from, due_from_faulty, fresh_shelf, after_fetch, after_faulty_fetch};
 ghost use Rattle.ecf_edge.specs.declared.shelf.Fetch.TheVariants.{NoMemory};
 
 use crate::plan::{FaultPlan, count_up};
+use crate::source::Incomplete;
 use std::alloc::{AllocError, Global};
 use std::marker::Model;
 use thiserror::Error;
@@ -36,6 +36,17 @@ impl From<AllocError> for Fetch {
     }
 }
 
+impl From<Incomplete> for Fetch {
+    ghost from_gives = { λ cause fault. fault ≡ fault_of_incomplete cause };
+
+    fn from(cause: Incomplete) -> Self {
+        match cause {
+            Incomplete::OverLimit => Fetch::TooLong,
+            Incomplete::Failed => Fetch::Failed,
+        }
+    }
+}
+
 /// Contents that are fetched whole, by name.
 pub trait Shelf {
     /// The named contents, where the shelf tells them.
@@ -56,15 +67,12 @@ pub trait Shelf {
         ensures whole { IfOk result (λ v. HoldsUnder (contents self.old) name.now v.items) }
         ensures bound { IfOk result (λ v. length v.items ≤ most) }
 
-        ensures fault_counted { IsErrOf result Fetch.Failed → Rose (faults self.old) (faults self.new) }
-        ensures long_counted { IsErrOf result Fetch.TooLong → Rose (long_answers self.old) (long_answers self.new) }
-        ensures absence_counted { IsErrOf result Fetch.Missing → Rose (absences self.old) (absences self.new) }
         ensures too_long { IsErrOf result Fetch.TooLong → HoldsMoreUnder (contents self.old) name.now most }
         ensures missing { IsErrOf result Fetch.Missing → HoldsNoneUnder (contents self.old) name.now }
 
-        ensures faults_never_fall { faults self.old ≤ faults self.new }
-        ensures long_answers_never_fall { long_answers self.old ≤ long_answers self.new }
-        ensures absences_never_fall { absences self.old ≤ absences self.new };
+        ensures faults_counted { faults self.new ≡ faults_after_fetch (faults self.old) result }
+        ensures long_answers_counted { long_answers self.new ≡ long_answers_after_fetch (long_answers self.old) result }
+        ensures absences_counted { absences self.new ≡ absences_after_fetch (absences self.old) result };
 }
 
 /// The content of the first of the files that has the name.
@@ -124,13 +132,11 @@ impl Shelf for SureShelf {
         ensures keeps { self.new.files ≡ self.old.files }
         ensures whole { IfOk result (λ v. HoldsUnder (Some self.old.files) name.now v.items) }
         ensures bound { IfOk result (λ v. length v.items ≤ most) }
-        ensures long_counted { IsErrOf result Fetch.TooLong → Rose self.old.long_answers self.new.long_answers }
-        ensures absence_counted { IsErrOf result Fetch.Missing → Rose self.old.absences self.new.absences }
         ensures too_long { IsErrOf result Fetch.TooLong → HoldsMoreUnder (Some self.old.files) name.now most }
         ensures missing { IsErrOf result Fetch.Missing → HoldsNoneUnder (Some self.old.files) name.now }
         ensures never_failed { result ≢ Err Fetch.Failed }
-        ensures long_answers_never_fall { self.old.long_answers ≤ self.new.long_answers }
-        ensures absences_never_fall { self.old.absences ≤ self.new.absences }
+        ensures long_answers_counted { self.new.long_answers ≡ long_answers_after_fetch self.old.long_answers result }
+        ensures absences_counted { self.new.absences ≡ absences_after_fetch self.old.absences result }
     {
         let Some(content) = content_under(&self.files, name) else {
             count_up(&mut self.absences);
@@ -196,15 +202,12 @@ impl Shelf for MemShelf {
         ensures whole { IfOk result (λ v. HoldsUnder (Some self.old.shelf.files) name.now v.items) }
         ensures bound { IfOk result (λ v. length v.items ≤ most) }
 
-        ensures fault_counted { IsErrOf result Fetch.Failed → Rose self.old.plan.faults self.new.plan.faults }
-        ensures long_counted { IsErrOf result Fetch.TooLong → Rose self.old.shelf.long_answers self.new.shelf.long_answers }
-        ensures absence_counted { IsErrOf result Fetch.Missing → Rose self.old.shelf.absences self.new.shelf.absences }
         ensures too_long { IsErrOf result Fetch.TooLong → HoldsMoreUnder (Some self.old.shelf.files) name.now most }
         ensures missing { IsErrOf result Fetch.Missing → HoldsNoneUnder (Some self.old.shelf.files) name.now }
 
-        ensures faults_never_fall { self.old.plan.faults ≤ self.new.plan.faults }
-        ensures long_answers_never_fall { self.old.shelf.long_answers ≤ self.new.shelf.long_answers }
-        ensures absences_never_fall { self.old.shelf.absences ≤ self.new.shelf.absences }
+        ensures faults_counted { self.new.plan.faults ≡ faults_after_fetch self.old.plan.faults result }
+        ensures long_answers_counted { self.new.shelf.long_answers ≡ long_answers_after_fetch self.old.shelf.long_answers result }
+        ensures absences_counted { self.new.shelf.absences ≡ absences_after_fetch self.old.shelf.absences result }
     {
         if self.plan.call_fails() {
             return Err(Fetch::Failed);

@@ -1,8 +1,7 @@
 //! Sinks of bytes: the trait, two sinks in memory, and a call that writes a whole text.
 ghost use Rattle.std.specs.Prelude.{◌≡◌, ◌≢◌, ℕ, ◌≤◌, ◌<◌, ◌+◌, List, [], Option, length, take, Some, IfOk, OnOk, OnErr, IsErrOf, MatchBool, MatchResult, if◌then◌else◌};
-ghost use Rattle.ecf_edge.specs.Count.{Rose};
 ghost use Rattle.ecf_edge.specs.Plan.{fresh_plan, next_fails, after_call};
-ghost use Rattle.ecf_edge.specs.Sink.{Grew, GrewByPrefix, taken, with_more};
+ghost use Rattle.ecf_edge.specs.Sink.{Grew, GrewByPrefix, faults_after_write, taken, with_more};
 ghost use Rattle.ecf_edge.specs.declared.sink.WriteFault.TheVariants.{NoMemory};
 
 use crate::plan::FaultPlan;
@@ -43,9 +42,8 @@ pub trait Sink {
         ensures bound { IfOk result (λ n. n ≤ length piece.now) }
         ensures progress { IfOk result (λ n. 0 < length piece.now → 0 < n) }
         ensures appends { IfOk result (λ n. Grew (held self.old) (take n piece.now) (held self.new)) }
-        ensures fault_counted { IsErrOf result WriteFault.Failed → Rose (faults self.old) (faults self.new) }
         ensures fault_keeps { OnErr result (held self.new ≡ held self.old) }
-        ensures never_falls { faults self.old ≤ faults self.new };
+        ensures counted { faults self.new ≡ faults_after_write (faults self.old) result };
 }
 
 /// Writes all of `bytes`, in as many writes as it takes, or a first part of them up to the first fault. It takes no memory
@@ -53,8 +51,7 @@ pub trait Sink {
 pub fn put_all<K: Sink>(sink: &mut K, bytes: &[u8]) -> Result<(), WriteFault>
     ensures all { OnOk result (Grew (K.held sink.old) bytes.now (K.held sink.new)) }
     ensures prefix { GrewByPrefix (K.held sink.old) bytes.now (K.held sink.new) }
-    ensures fault_counted { IsErrOf result WriteFault.Failed → Rose (K.faults sink.old) (K.faults sink.new) }
-    ensures never_falls { K.faults sink.old ≤ K.faults sink.new }
+    ensures counted { K.faults sink.new ≡ faults_after_write (K.faults sink.old) result }
 {
     let mut written = 0;
     while written < bytes.len() {
@@ -184,9 +181,8 @@ impl Sink for MemSink {
         ensures bound { IfOk result (λ n. n ≤ length piece.now) }
         ensures progress { IfOk result (λ n. 0 < length piece.now → 0 < n) }
         ensures appends { IfOk result (λ n. Grew (Some self.old.sink.held) (take n piece.now) (Some self.new.sink.held)) }
-        ensures fault_counted { IsErrOf result WriteFault.Failed → Rose self.old.plan.faults self.new.plan.faults }
         ensures fault_keeps { OnErr result (self.new.sink.held ≡ self.old.sink.held) }
-        ensures never_falls { self.old.plan.faults ≤ self.new.plan.faults }
+        ensures counted { self.new.plan.faults ≡ faults_after_write self.old.plan.faults result }
     {
         if self.plan.call_fails() {
             return Err(WriteFault::Failed);

@@ -1,8 +1,7 @@
 //! Sources of bytes: the trait, two sources in memory, and a call that reads a source to its end.
 ghost use Rattle.std.specs.Prelude.{◌≡◌, ℕ, ◌≤◌, ◌<◌, ◌+◌, List, Option, length, take, Some, IfSome, IfOk, OnErr, IsErr, MatchBool, if◌then◌else◌, ◌≢◌};
-ghost use Rattle.ecf_edge.specs.Count.{Rose};
 ghost use Rattle.ecf_edge.specs.Plan.{fresh_plan, next_fails};
-ghost use Rattle.ecf_edge.specs.Source.{Gave, GaveSome, IsAtEnd, given, filled, after_read, after_faulty_read};
+ghost use Rattle.ecf_edge.specs.Source.{Gave, GaveSome, IsAtEnd, faults_after_read, faults_after_reading, whole_of, given, filled, after_read, after_faulty_read};
 
 use crate::plan::FaultPlan;
 use std::alloc::{AllocError, Global};
@@ -28,9 +27,8 @@ pub trait Source {
         ensures bound { IfOk result (λ n. n ≤ length buf.new) }
         ensures gives { IfOk result (λ n. Gave (left self.old) (take n buf.new) (left self.new)) }
         ensures end { IfOk result (λ n. n ≡ 0 → 0 < length buf.new → IsAtEnd (left self.new)) }
-        ensures fault_counted { OnErr result (Rose (faults self.old) (faults self.new)) }
         ensures fault_keeps { OnErr result (left self.new ≡ left self.old) }
-        ensures never_falls { faults self.old ≤ faults self.new };
+        ensures counted { faults self.new ≡ faults_after_read (faults self.old) result };
 }
 
 /// The most bytes that `read_all` asks of one read.
@@ -56,6 +54,30 @@ pub struct Reading {
     pub ending: Ending,
 }
 
+/// Why a reading hasn't all the bytes of its source.
+#[derive(Clone, Copy, Debug, PartialEq, Eq, Error)]
+pub enum Incomplete {
+    /// More bytes came than were allowed.
+    #[error("the text is too long")]
+    OverLimit,
+    /// A read failed.
+    #[error("the read failed")]
+    Failed,
+}
+
+impl Reading {
+    /// The bytes of a reading that came to the end of its source, or why they aren't all.
+    pub fn whole(self) -> Result<Vec<u8>, Incomplete>
+        ensures { result ≡ whole_of self.ending self.bytes }
+    {
+        match self.ending {
+            Ending::End => Ok(self.bytes),
+            Ending::OverLimit => Err(Incomplete::OverLimit),
+            Ending::Failed => Err(Incomplete::Failed),
+        }
+    }
+}
+
 /// Reads a source to its end, to one byte over `most`, or to a failed read. Each read asks for at most 65,536 bytes.
 /// After a want of memory some bytes may have been read, and they are lost.
 pub fn read_all<S: Source>(
@@ -69,14 +91,13 @@ pub fn read_all<S: Source>(
     ensures end { IfOk result (λ r. r.ending ≡ Ending.End → IsAtEnd (S.left source.new)) }
     ensures over_limit { IfOk result (λ r. r.ending ≡ Ending.OverLimit → length r.bytes.items ≡ most + 1) }
     ensures within_limit { IfOk result (λ r. r.ending ≢ Ending.OverLimit → length r.bytes.items ≤ most) }
-    ensures failed { IfOk result (λ r. r.ending ≡ Ending.Failed → Rose (S.faults source.old) (S.faults source.new)) }
 
     // What follows for a source that tells what it had.
     ensures whole { IfOk result (λ r. r.ending ≡ Ending.End → IfSome (S.left source.old) (λ all. r.bytes.items ≡ all)) }
     ensures too_many { IfOk result (λ r. r.ending ≡ Ending.OverLimit → IfSome (S.left source.old) (λ all. most < length all)) }
 
     ensures lost { OnErr result (GaveSome (S.left source.old) (S.left source.new)) }
-    ensures never_falls { S.faults source.old ≤ S.faults source.new }
+    ensures counted { S.faults source.new ≡ faults_after_reading (S.faults source.old) result }
 {
     let mut bytes = Vec::new(alloc);
     let mut buffer = vec![in alloc; 0; most.min(PIECE - 1) + 1]?;
@@ -228,9 +249,8 @@ impl Source for MemSource {
         ensures bound { IfOk result (λ n. n ≤ length buf.new) }
         ensures gives { IfOk result (λ n. Gave (Some self.old.source.left) (take n buf.new) (Some self.new.source.left)) }
         ensures end { IfOk result (λ n. n ≡ 0 → 0 < length buf.new → IsAtEnd (Some self.new.source.left)) }
-        ensures fault_counted { OnErr result (Rose self.old.plan.faults self.new.plan.faults) }
         ensures fault_keeps { OnErr result (self.new.source.left ≡ self.old.source.left) }
-        ensures never_falls { self.old.plan.faults ≤ self.new.plan.faults }
+        ensures counted { self.new.plan.faults ≡ faults_after_read self.old.plan.faults result }
     {
         if self.plan.call_fails() {
             return Err(Failed);

@@ -69,6 +69,29 @@ fn a_source_is_read_to_a_failed_read(rt: HostRuntime) -> Result<(), Fail> {
     Ok(())
 }
 
+// A reading as the answer of a fetch.
+fn fetched(reading: Reading) -> Result<Vec<u8>, Fetch> {
+    Ok(reading.whole()?)
+}
+
+#[test]
+fn a_reading_is_whole_or_says_why_not(rt: HostRuntime) -> Result<(), Fail> {
+    let alloc = rt.alloc();
+    for (most, fails, due) in [
+        (8, 100, Ok("abcdefgh")),
+        (7, 100, Err(Fetch::TooLong)),
+        (8, 2, Err(Fetch::Failed)),
+    ] {
+        let mut source = MemSource::new(TEXT.to_vec(alloc)?, 3, vec![in alloc; fails]?);
+        match (fetched(read_all(alloc, &mut source, most)?), due) {
+            (Ok(content), Ok(text)) => assert_eq!(rt; content.as_slice(), text.as_bytes()),
+            (Err(fault), Err(cause)) => assert_eq!(rt; fault, cause),
+            (_, _) => panic!(rt; "at most {most}, read {fails} fails"),
+        }
+    }
+    Ok(())
+}
+
 // What one read answers, through the bound.
 fn read_once<S: Source>(source: &mut S, room: &mut [u8]) -> Result<usize, Failed> {
     source.read(room)
@@ -200,10 +223,28 @@ fn an_open_gate_lets_each_thread_pass(_rt: HostRuntime) {
     }
 }
 
+// What is told to a thread, where several may share what tells it.
+fn quits<Q: Quit + Sync>(quit: &Q, point: Point) -> bool {
+    quit.quits(point)
+}
+
+#[test]
+fn no_thread_gives_up_where_none_may(rt: HostRuntime) {
+    assert!(rt; !quits(&NeverQuit, Point::BeforeRun(0)));
+}
+
 #[test]
 fn faults_have_texts(rt: HostRuntime) -> Result<(), Fail> {
     let alloc = rt.alloc();
     assert_eq!(rt; Failed.to_string(alloc)?.as_str(), "the read failed");
+    assert_eq!(rt;
+        Incomplete::Failed.to_string(alloc)?.as_str(),
+        "the read failed"
+    );
+    assert_eq!(rt;
+        Incomplete::OverLimit.to_string(alloc)?.as_str(),
+        "the text is too long"
+    );
     assert_eq!(rt;
         WriteFault::Failed.to_string(alloc)?.as_str(),
         "the write failed"

@@ -14,5 +14,5 @@ pub loop-written-preserved : goal.loop-written-preserved
 loop-written-preserved g c = record {
   in_range = grind (arith, take_rest);
   grew = rw (← take-further) (Grew-append _ _ _ _ _ c.loop-written.invariant.grew c.in_ok-written.ensures.appends);
-  no_fewer_faults = omega arith;
+  no_fault = c.in_ok-written.ensures.counted ∙ c.loop-written.invariant.no_fault;
 }

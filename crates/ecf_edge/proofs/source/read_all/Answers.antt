@@ -1,4 +1,4 @@
-use Rattle.std.proofs.Common.{arith}
+use Rattle.std.proofs.Common.{◌∙◌, arith}
 use Rattle.std.proofs.lemmas.Result.{err_from_is_err_and}
 use Rattle.std.proofs.lemmas.Grind.{common_steps}
 use Rattle.ecf_edge.proofs.Chains.{Gave-append}
@@ -9,7 +9,7 @@ loop-bytes-preserved g c = record {
   gave = rw c.in_ok-extend_from_slice-in-Ok.ensures.items (Gave-append _ _ _ _ _ c.loop-bytes.invariant.gave c.in-Ok.ensures.gives);
   bound = grind (arith, common_steps);
   room = c.loop-bytes.invariant.room;
-  no_fewer_faults = omega arith;
+  no_fault = c.in-Ok.ensures.counted ∙ c.loop-bytes.invariant.no_fault;
 }
 
 pub returns-in_err-extend_from_slice-in-Ok-clause-lost :

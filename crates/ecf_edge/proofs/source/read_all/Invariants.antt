@@ -8,7 +8,7 @@ invariant-loop-bytes g l = record {
   gave : Gave (g.S.Source.left l.initial.source) l.bytes.items (g.S.Source.left l.source);
   bound : vec_len l.bytes ≤ l.most + 1;
   room : vec_len l.buffer ≡ min l.most (PIECE - 1) + 1;
-  no_fewer_faults : g.S.Source.faults l.initial.source ≤ g.S.Source.faults l.source;
+  no_fault : g.S.Source.faults l.source ≡ g.S.Source.faults l.initial.source;
 }
 
 abbrev pub decreases-loop-bytes : goal.decreases-loop-bytes
