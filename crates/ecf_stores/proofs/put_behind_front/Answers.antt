@@ -1,0 +1,5 @@
+use Rattle.ecf_stores.specs.CutLaws as proved
+use Rattle.ecf_stores.proofs.put_behind_front.Goals as goal
+
+pub returns : goal.returns
+returns c = proved.put_behind_front

@@ -1,0 +1,6 @@
+pub mod Pairs
+pub mod Laws
+pub mod CellOrder
+pub mod PairLaws
+pub mod StoreLaws
+pub mod CutLaws
