@@ -239,4 +239,10 @@ token_text (kind.Word w) bytes h = identifier_text bytes (word_text_of w bytes h
 token_text (kind.Sign s) bytes h = sign_token bytes (sign_text_of s bytes h)
 
 pub lexemes_begin_apart : LexemesBeginApart
-lexemes_begin_apart = record { word = word_identifier; sign = sign_shape }
+lexemes_begin_apart = record {
+  name_or_digit = digit_or_name;
+  name_or_blank = blank_or_name;
+  digit_or_blank = blank_or_digit;
+  word = word_identifier;
+  sign = sign_shape;
+}

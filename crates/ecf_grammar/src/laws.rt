@@ -30,7 +30,8 @@ pub fn reading_goes_on()
     ensures some { PiecesHaveBytes }
 {}
 
-/// A reserved word begins as a name does; a sign has one byte or two, and begins neither as a name, a number, a blank nor a comment.
+/// What begins a name, a number, a sign and a blank differs. A reserved word begins as a name does, and no sign of one byte or two
+/// begins a comment.
 pub fn lexemes_begin_apart()
     ensures { LexemesBeginApart }
 {}

@@ -1,4 +1,3 @@
-pub mod Complete
-pub mod Decimal
-pub mod Fronts
-pub mod Steps
+pub mod FrontLaws
+pub mod StepLaws
+pub mod AnswerLaws

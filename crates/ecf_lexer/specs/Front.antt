@@ -2,7 +2,7 @@
 use Rattle.std.specs.Prelude.{◌≡◌, ℕ, ◌^◌, ◌≤◌, List, length, drop, ⊤}
 use Rattle.ecf_grammar.specs.declared.tokens.Kind.TheVariants as kind
 use Rattle.ecf_grammar.specs.Reading.{Piece, bytes_of, Begins, BeginsLongest, BeginsToken, IsInRange}
-use Rattle.ecf_grammar.specs.Reading.Piece.{Blank, Comment, Lexeme}
+use Rattle.ecf_grammar.specs.Reading.Piece.{Blank, Comment, TokenText}
 use Rattle.ecf_lexer.specs.declared.front.Front.{Front}
 use Rattle.ecf_lexer.specs.declared.front.Front.TheVariants.{Gap, Token, WideNumber}
 
@@ -10,7 +10,7 @@ use Rattle.ecf_lexer.specs.declared.front.Front.TheVariants.{Gap, Token, WideNum
 abbrev pub IsGap : Piece → Type 0
 IsGap (Blank byte) = ⊤
 IsGap (Comment remark) = ⊤
-IsGap (Lexeme k bytes) = ⊥
+IsGap (TokenText k bytes) = ⊥
 
 -- the text begins with this piece, of so many bytes, and with no longer one
 pub record IsFront (text : List ℕ) (piece : Piece) (len : ℕ) : Type 0 where
@@ -20,7 +20,7 @@ pub record IsFront (text : List ℕ) (piece : Piece) (len : ℕ) : Type 0 where
 -- what was found is the longest piece at the front of the text
 abbrev pub IsFrontOf : List ℕ → Front → Type 0
 IsFrontOf text (Gap len) = (piece : Piece) × IsGap piece × IsFront text piece len
-IsFrontOf text (Token k len) = (bytes : List ℕ) × IsInRange k × IsFront text (Lexeme k bytes) len
+IsFrontOf text (Token k len) = (bytes : List ℕ) × IsInRange k × IsFront text (TokenText k bytes) len
 IsFrontOf text WideNumber = (value : ℕ) × (2 ^ 128 ≤ value) × BeginsToken text (kind.Number value)
 
 -- no piece begins the text

@@ -8,9 +8,10 @@ ghost use Rattle.ecf_grammar.specs.Spelling.{sign_text, is_name_start, is_name_b
 ghost use Rattle.ecf_lexer.specs.Front.{IsFrontOf, BeginsNothing};
 
 use crate::spelling::{
-    decimal, is_blank, is_name_byte, is_name_start, one_byte_sign, reserved_word, two_byte_sign,
+    is_blank, is_name_byte, is_name_start, one_byte_sign, reserved_word, two_byte_sign,
 };
-use ecf_grammar::{Kind, Sign};
+use ecf_decimal::decimal;
+use ecf_grammar::{Kind, Sign, lexemes_begin_apart, reading_goes_on};
 
 /// The longest piece at the front of a text.
 #[derive(Clone, Copy, Debug, PartialEq, Eq)]
@@ -27,6 +28,7 @@ pub enum Front {
 pub fn read_front(text: &[u8]) -> Option<Front>
     ensures { MatchOption result (BeginsNothing text.now) (IsFrontOf text.now) }
 {
+    lexemes_begin_apart();
     let first = *text.first()?;
     if text.starts_with(b"//") {
         Some(comment(text))
@@ -46,6 +48,7 @@ fn comment(text: &[u8]) -> Front
     requires { starts_with nat_eq text.now (codes "//") ≡ true }
     ensures { IsFrontOf text.now result }
 {
+    lexemes_begin_apart();
     Front::Gap {
         len: line_len(text),
     }
@@ -56,6 +59,7 @@ fn name(text: &[u8]) -> Front
     requires { IsTrue (is_name_start (slice_index text.now 0)) }
     ensures { IsFrontOf text.now result }
 {
+    lexemes_begin_apart();
     let len = name_len(text);
     let kind = match reserved_word(&text[..len]) {
         Some(word) => Kind::Word(word),
@@ -69,6 +73,7 @@ fn number(text: &[u8]) -> Front
     requires { IsTrue (is_ascii_digit (slice_index text.now 0)) }
     ensures { IsFrontOf text.now result }
 {
+    lexemes_begin_apart();
     let len = digits_len(text);
     match decimal(&text[..len]) {
         Some(value) => Front::Token {
@@ -87,6 +92,8 @@ fn sign(text: &[u8]) -> Option<Front>
     requires no_digit { is_ascii_digit (slice_index text.now 0) ≡ false }
     ensures { MatchOption result (BeginsNothing text.now) (IsFrontOf text.now) }
 {
+    lexemes_begin_apart();
+    reading_goes_on();
     match two_byte_front(text) {
         Some(sign) => Some(Front::Token {
             kind: Kind::Sign(sign),

@@ -9,15 +9,12 @@ ghost use Rattle.ecf_lexer.specs.Progress.{ReadsTo};
 ghost use Rattle.ecf_lexer.specs.declared.lexer.LexFault.TheVariants.{NoMemory};
 
 use crate::front::{Front, read_front};
-use ecf_grammar::Token;
+use ecf_grammar::{
+    Token, one_fault, one_reading, read_or_refused, reading_goes_on, tokens_in_place,
+};
+use ecf_lang::limits::{MAX_CONTRACT_BYTES, MAX_TOKENS};
 use std::alloc::Global;
 use thiserror::Error;
-
-/// How many bytes a source may have.
-pub const MAX_SOURCE_BYTES: usize = 1_048_576;
-
-/// How many tokens a source may have.
-const MAX_TOKENS: usize = 200_000;
 
 /// Why a source has no tokens: its first fault, with the byte at which that stands, counted from 0; or want of memory.
 #[derive(Clone, Copy, Debug, PartialEq, Eq, Error)]
@@ -38,7 +35,7 @@ pub enum LexFault {
 /// The tokens of a contract file, read by longest match, each with its place.
 /// It looks at each byte a few times at most, and takes memory for the tokens alone.
 pub fn lex(alloc: Global, source: &[u8]) -> Result<Vec<Token>, LexFault>
-    requires { length source.now ≤ MAX_SOURCE_BYTES }
+    requires { length source.now ≤ MAX_CONTRACT_BYTES }
 
     // An answer is right.
     ensures read { IfOk result (λ tokens. Reads source.now tokens.items) }
@@ -52,6 +49,10 @@ pub fn lex(alloc: Global, source: &[u8]) -> Result<Vec<Token>, LexFault>
     ensures spelled { IfOk result (λ tokens. AllByRecursion (IsTokenOf source.now) tokens.items) }
     ensures in_order { IfOk result (λ tokens. StandInOrder 0 tokens.items) }
 {
+    one_reading();
+    read_or_refused();
+    one_fault();
+    tokens_in_place();
     let mut tokens = Vec::new(alloc);
     let mut at = 0;
     while at < source.len() {
@@ -62,12 +63,13 @@ pub fn lex(alloc: Global, source: &[u8]) -> Result<Vec<Token>, LexFault>
 
 // Reads the piece at a place, and says where it ends.
 fn read_piece(source: &[u8], at: usize, tokens: &mut Vec<Token>) -> Result<usize, LexFault>
-    requires short { length source.now ≤ MAX_SOURCE_BYTES }
+    requires short { length source.now ≤ MAX_CONTRACT_BYTES }
     requires more { at < length source.now }
     requires so_far { ReadsTo source.now tokens.old.items at }
     ensures further { IfOk result (λ end. (at < end) × ReadsTo source.now tokens.new.items end) }
     ensures refused { IfErr result (λ e. IfSome (fault_of e) (IsFaulty source.now)) }
 {
+    reading_goes_on();
     let start = at as u32;
     let Some(front) = read_front(&source[at..]) else {
         return Err(LexFault::BadByte { at: start });
@@ -98,7 +100,7 @@ fn read_piece(source: &[u8], at: usize, tokens: &mut Vec<Token>) -> Result<usize
     }
 }
 
-// Puts a token at the end.
+// Puts a token at the end; want of memory is told as itself.
 fn push(tokens: &mut Vec<Token>, token: Token) -> Result<(), LexFault>
     ensures ok { OnOk result (tokens.new.items ≡ tokens.old.items ++ token ∷ []) }
     ensures err { IfErr result (λ e. e ≡ NoMemory) }

@@ -8,4 +8,4 @@ mod spelling;
 mod tests;
 
 pub use ecf_grammar::{Kind, Sign, Token, Word};
-pub use lexer::{LexFault, MAX_SOURCE_BYTES, lex};
+pub use lexer::{LexFault, lex};

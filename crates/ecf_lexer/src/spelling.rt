@@ -1,12 +1,9 @@
-//! Which words, signs and numbers bytes spell.
+//! Which words and signs bytes spell.
 
-ghost use Rattle.std.specs.Prelude.{◌≡◌, ◌≢◌, ◌+◌, ◌^◌, ◌<◌, ◌↔◌, [], ◌∷◌, IsTrue, MatchOption};
-ghost use Rattle.std.specs.List.{list_all};
-ghost use Rattle.std.specs.Char.{is_ascii_digit};
-ghost use Rattle.std.specs.Option.{SomeIff};
+ghost use Rattle.std.specs.Prelude.{◌≡◌, ◌≢◌, [], ◌∷◌, MatchOption};
 ghost use Rattle.ecf_grammar.specs.declared.tokens.Word.{Word};
 ghost use Rattle.ecf_grammar.specs.declared.tokens.Sign.{Sign};
-ghost use Rattle.ecf_grammar.specs.Spelling.{word_text, sign_text, is_name_start, is_name_byte, is_blank, number_value};
+ghost use Rattle.ecf_grammar.specs.Spelling.{word_text, sign_text, is_name_start, is_name_byte, is_blank};
 
 use ecf_grammar::{Sign, Word};
 
@@ -100,18 +97,4 @@ pub fn one_byte_sign(byte: u8) -> Option<Sign>
         b'!' => Some(Sign::Not),
         _ => None,
     }
-}
-
-/// The value of decimal digits, if it is below 2^128.
-pub fn decimal(digits: &[u8]) -> Option<u128>
-    requires { IsTrue (list_all is_ascii_digit digits.now) }
-    ensures { SomeIff result (number_value digits.now < 2 ^ 128) (number_value digits.now) }
-{
-    let mut value: u128 = 0;
-    for digit in digits {
-        value = value
-            .checked_mul(10)?
-            .checked_add(u128::from(*digit - b'0'))?;
-    }
-    Some(value)
 }

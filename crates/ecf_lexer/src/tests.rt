@@ -1,4 +1,5 @@
 use super::*;
+use ecf_lang::limits::MAX_CONTRACT_BYTES;
 use std::alloc::Global;
 use std::process::Abort;
 use std::test::Fail;
@@ -114,7 +115,7 @@ fn texts_have_these_tokens(rt: HostRuntime) -> Result<(), Fail> {
 
 fn expect_tokens(rt: &impl Abort, alloc: Global, table: &[(&str, &[Row])]) -> Result<(), Fail> {
     for (source, rows) in table {
-        assert!(rt; source.len() <= MAX_SOURCE_BYTES);
+        assert!(rt; source.len() <= MAX_CONTRACT_BYTES);
         let tokens = lex(alloc, source.as_bytes())?;
         assert_eq!(rt; tokens.len(), rows.len(), "{source}");
         for (token, row) in tokens.iter().zip(rows.iter()) {
@@ -186,7 +187,7 @@ fn each_word_and_sign_is_read(rt: HostRuntime) -> Result<(), Fail> {
 }
 
 fn expect_kinds(rt: &impl Abort, alloc: Global, source: &str, kinds: &[Kind]) -> Result<(), Fail> {
-    assert!(rt; source.len() <= MAX_SOURCE_BYTES);
+    assert!(rt; source.len() <= MAX_CONTRACT_BYTES);
     let tokens = lex(alloc, source.as_bytes())?;
     assert_eq!(rt; tokens.len(), kinds.len());
     for (token, kind) in tokens.iter().zip(kinds.iter()) {
@@ -265,7 +266,7 @@ fn expect_faults(rt: &impl Abort, alloc: Global, table: &[Faulty]) -> Result<(),
     for (count, tail, fault) in table {
         let mut source = vec![in alloc; b';'; *count]?;
         source.extend_from_slice(tail.as_bytes())?;
-        assert!(rt; source.len() <= MAX_SOURCE_BYTES);
+        assert!(rt; source.len() <= MAX_CONTRACT_BYTES);
         assert_eq!(rt; lex(alloc, &source).err(), *fault, "{count} and {tail}");
     }
     Ok(())
