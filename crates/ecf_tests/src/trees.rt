@@ -1,7 +1,8 @@
 //! Texts of contracts against the trees and faults that the grammar in docs/language.md gives them.
 
 use ecf_lang::tree::Tree;
-use ecf_lexer::{MAX_SOURCE_BYTES, lex};
+use ecf_lang::limits::MAX_CONTRACT_BYTES;
+use ecf_lexer::lex;
 use ecf_parser::{SyntaxFault, parse};
 use std::alloc::{AllocError, Global};
 use std::process::Abort;
@@ -24,7 +25,7 @@ fn expect_fault(
     text: &str,
     fault: Option<SyntaxFault>,
 ) -> Result<(), Fail> {
-    assert!(rt; text.len() <= MAX_SOURCE_BYTES);
+    assert!(rt; text.len() <= MAX_CONTRACT_BYTES);
     let tokens = lex(alloc, text.as_bytes())?;
     let answer = parse(alloc, text.as_bytes(), tokens.as_slice());
     assert_eq!(rt; answer.err(), fault, "{text}");
@@ -152,7 +153,7 @@ fn expect_tree(rt: &impl Abort, alloc: Global, body: &str, stmts: &str) -> Resul
     let mut text = String::from_str(alloc, METHOD)?;
     text.push_str(body)?;
     text.push_str(" } }")?;
-    assert!(rt; text.len() <= MAX_SOURCE_BYTES);
+    assert!(rt; text.len() <= MAX_CONTRACT_BYTES);
     let tokens = lex(alloc, text.as_bytes())?;
     let tree = parse(alloc, text.as_bytes(), tokens.as_slice())?;
     let shown = outline(alloc, &tree)?;
