@@ -8,7 +8,7 @@ use Rattle.ecf_lang.specs.declared.cell.Cell.{Cell}
 use Rattle.ecf_lang.specs.Store.{Cells, cell_cmp, find_cell, set}
 use Rattle.ecf_stores.specs.Pairs.{remove_cell, AreBelow, AreAbove}
 use Rattle.ecf_stores.specs.Laws.{FindInParts, FindBehindFront, FindBeforeBack, PutBehindFront, PutBeforeBack}
-use Rattle.ecf_stores.specs.CellOrder.{cell_order_is_total}
+use Rattle.ecf_stores.specs.OrderLaws.{cell_order_is_total}
 
 pub find_in_parts : FindInParts
 find_in_parts [] back cell = refl

@@ -1,6 +1,6 @@
 pub mod Pairs
 pub mod Laws
-pub mod CellOrder
+pub mod OrderLaws
 pub mod PairLaws
 pub mod StoreLaws
 pub mod CutLaws

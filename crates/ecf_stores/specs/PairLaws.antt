@@ -14,7 +14,7 @@ use Rattle.ecf_lang.specs.declared.cell.Cell.{Cell}
 use Rattle.ecf_lang.specs.Store.{Cells, cell_cmp, IsRising, find_cell, set}
 use Rattle.ecf_stores.specs.Pairs.{remove_cell, put_back}
 use Rattle.ecf_stores.specs.Laws.{SetKeepsRising, RemovalKeepsRising, FindAfterSet, FindAfterRemoval, PutBackUndoesSet, SameFindsSamePairs}
-use Rattle.ecf_stores.specs.CellOrder.{cell_order_is_total, cell_order_is_exact, is_at_itself, is_at_same, is_at_other, is_at_back}
+use Rattle.ecf_stores.specs.OrderLaws.{cell_order_is_total, cell_order_is_exact, is_at_itself, is_at_same, is_at_other, is_at_back}
 
 -- the cell is below each of these
 abbrev IsBelowAll : Cell → List Cell → Type 0

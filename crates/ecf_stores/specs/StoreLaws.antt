@@ -12,7 +12,7 @@ use Rattle.ecf_lang.specs.Store.{Store, Cells, cell_cmp, IsStore, find_cell, rea
 use Rattle.ecf_lang.specs.Genesis.{object_cells}
 use Rattle.ecf_stores.specs.Pairs.{remove_cell}
 use Rattle.ecf_stores.specs.Laws.{PutKeepsStore, ReadAfterPut, EmptyIsStore, WritesKeepStore, WritesGoOn, OneMoreWriteIsPut, ReadAfterWrites, SameReadsSameStore, GenesisIsStore}
-use Rattle.ecf_stores.specs.CellOrder.{is_at_itself, is_at_same, is_at_other, is_at_back}
+use Rattle.ecf_stores.specs.OrderLaws.{is_at_itself, is_at_same, is_at_other, is_at_back}
 use Rattle.ecf_stores.specs.PairLaws.{none_rises, set_keeps_rising, removal_keeps_rising, none_found, find_cell-set, find_cell-remove_cell, same_finds_same_pairs}
 
 -- the number of a pair is above 0

@@ -1,4 +1,4 @@
-use Rattle.ecf_stores.specs.CellOrder as proved
+use Rattle.ecf_stores.specs.OrderLaws as proved
 use Rattle.ecf_stores.proofs.cell_order_is_exact.Goals as goal
 
 pub returns : goal.returns
