@@ -10,8 +10,7 @@ use Rattle.ecf_lang.specs.declared.typed.Typed.{Typed}
 use Rattle.ecf_lang.specs.declared.typed.TypedExpr.{TypedExpr}
 use Rattle.ecf_lang.specs.declared.typed.TypedBlock.{TypedBlock}
 use Rattle.ecf_lang.specs.declared.tx.Tx.{Tx}
-use Rattle.ecf_lang.specs.Store.{Store, Cells, IsRising, IsStore, with_writes}
-use Rattle.ecf_lang.specs.Genesis.{genesis}
+use Rattle.ecf_lang.specs.Store.{Store, IsRising, IsStore, with_writes}
 use Rattle.ecf_lang.specs.Draft.{AgreesWith, StandsFor}
 use Rattle.ecf_lang.specs.Part.{State}
 use Rattle.ecf_lang.specs.Meaning.{Frame, Action, value_of, turns, run, kept_run}
@@ -19,20 +18,22 @@ use Rattle.ecf_laws.specs.Parts.{NeverRaisesFuel, NoPartRaisesFuel, frame_in, lo
 use Rattle.ecf_laws.specs.Replay.{AreSeen, after_steps}
 
 -- the fuel charged in these invocations
-abbrev pub charged_in : List Invocation → ℕ
-charged_in invocations = sum_by (λ one. one.own_fuel) invocations
+abbrev pub total_charge : List Invocation → ℕ
+total_charge invocations = sum_by (λ one. one.own_fuel) invocations
 
 -- the step is of one of these invocations, and that wasn't undone
-abbrev pub IsOfStanding : List Invocation → Step → Type 0
-IsOfStanding invocations step = IsSomeAnd (slice_get invocations step.inv) (λ one. one.undone ≡ false)
+abbrev pub IsOfStandingInvocation : List Invocation → Step → Type 0
+IsOfStandingInvocation invocations step = IsSomeAnd (slice_get invocations step.inv) (λ one. one.undone ≡ false)
 
 -- a run that doesn't answer leaves the store
 abbrev pub UnansweredLeavesStore : Type 0
-UnansweredLeavesStore = (typed : Typed) (store : Store) (tx : Tx) → ((value : ℕ) → (run typed store tx).outcome ≢ Answer value) → (run typed store tx).store ≡ store
+UnansweredLeavesStore = (typed : Typed) (store : Store) (tx : Tx) →
+    ((value : ℕ) → (run typed store tx).outcome ≢ Answer value) → (run typed store tx).store ≡ store
 
 -- a run that doesn't answer writes nothing
 abbrev pub UnansweredWritesNothing : Type 0
-UnansweredWritesNothing = (typed : Typed) (store : Store) (tx : Tx) → ((value : ℕ) → (run typed store tx).outcome ≢ Answer value) → (run typed store tx).writes ≡ []
+UnansweredWritesNothing = (typed : Typed) (store : Store) (tx : Tx) →
+    ((value : ℕ) → (run typed store tx).outcome ≢ Answer value) → (run typed store tx).writes ≡ []
 
 -- every run ends in the store with its writes
 abbrev pub EndsWithWrites : Type 0
@@ -76,17 +77,9 @@ ReadsDiffer = (typed : Typed) (store : Store) (tx : Tx) → AllPairs (λ a b. a 
 abbrev pub WritesRise : Type 0
 WritesRise = (typed : Typed) (store : Store) (tx : Tx) → IsRising (run typed store tx).writes
 
--- a store after writes is a store
-abbrev pub WritesMakeStore : Type 0
-WritesMakeStore = (store : Store) (writes : Cells) → IsStore store → IsStore (with_writes store writes)
-
 -- a store after a run is a store
-abbrev pub RunMakesStore : Type 0
-RunMakesStore = (typed : Typed) (store : Store) (tx : Tx) → IsStore store → IsStore (run typed store tx).store
-
--- a contract's store before its first transaction is a store
-abbrev pub GenesisIsStore : Type 0
-GenesisIsStore = (typed : Typed) → IsStore (genesis typed)
+abbrev pub RunKeepsStore : Type 0
+RunKeepsStore = (typed : Typed) (store : Store) (tx : Tx) → IsStore store → IsStore (run typed store tx).store
 
 -- a run, kept, stands for the run of its transaction on every store that agrees with its reads
 abbrev pub RunStands : Type 0
@@ -94,7 +87,8 @@ RunStands = (typed : Typed) (store : Store) (tx : Tx) → StandsFor typed tx (ke
 
 -- two stores that agree on what a run reads give the same run
 abbrev pub SameReadsSameRun : Type 0
-SameReadsSameRun = (typed : Typed) (store other : Store) (tx : Tx) → AgreesWith (run typed store tx).reads other → kept_run (run typed other tx) ≡ kept_run (run typed store tx)
+SameReadsSameRun = (typed : Typed) (store other : Store) (tx : Tx) →
+    AgreesWith (run typed store tx).reads other → kept_run (run typed other tx) ≡ kept_run (run typed store tx)
 
 -- each read step of a run has the number of the last write step before it on its cell, else the store's
 abbrev pub ReadsSeeWrites : Type 0
@@ -102,16 +96,19 @@ ReadsSeeWrites = (typed : Typed) (store : Store) (tx : Tx) → AreSeen store [] 
 
 -- the writes of a run that answers are the cells of its write steps, with the last number of each
 abbrev pub WritesAreOfSteps : Type 0
-WritesAreOfSteps = (typed : Typed) (store : Store) (tx : Tx) (value : ℕ) → (run typed store tx).outcome ≡ Answer value → (run typed store tx).writes ≡ after_steps [] (run typed store tx).steps
+WritesAreOfSteps = (typed : Typed) (store : Store) (tx : Tx) (value : ℕ) →
+    (run typed store tx).outcome ≡ Answer value → (run typed store tx).writes ≡ after_steps [] (run typed store tx).steps
 
 -- where the run doesn't run out of fuel, the fuel used is what was charged in its invocations, undone ones among them
 abbrev pub FuelAddsUp : Type 0
-FuelAddsUp = (typed : Typed) (store : Store) (tx : Tx) → (run typed store tx).outcome ≢ OutOfFuel → charged_in (run typed store tx).invocations ≡ (run typed store tx).fuel
+FuelAddsUp = (typed : Typed) (store : Store) (tx : Tx) →
+    (run typed store tx).outcome ≢ OutOfFuel → total_charge (run typed store tx).invocations ≡ (run typed store tx).fuel
 
 -- what was charged in a run's invocations is at most the fuel used
 abbrev pub ChargedIsUsed : Type 0
-ChargedIsUsed = (typed : Typed) (store : Store) (tx : Tx) → charged_in (run typed store tx).invocations ≤ (run typed store tx).fuel
+ChargedIsUsed = (typed : Typed) (store : Store) (tx : Tx) → total_charge (run typed store tx).invocations ≤ (run typed store tx).fuel
 
 -- each step is of one of the run's invocations, and of none that was undone
 abbrev pub UndoneStepsVanish : Type 0
-UndoneStepsVanish = (typed : Typed) (store : Store) (tx : Tx) → All (IsOfStanding (run typed store tx).invocations) (run typed store tx).steps
+UndoneStepsVanish = (typed : Typed) (store : Store) (tx : Tx) →
+    All (IsOfStandingInvocation (run typed store tx).invocations) (run typed store tx).steps

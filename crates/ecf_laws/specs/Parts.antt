@@ -10,14 +10,14 @@ use Rattle.ecf_lang.specs.Store.{Store}
 use Rattle.ecf_lang.specs.Part.{State, Control, Done, Exit, Part}
 use Rattle.ecf_lang.specs.Meaning.{Frame, Action, turns, frame_of, ways, value_of, answer_of, stmt_of, block_of, calls_of}
 
--- what the run has where a part led
-abbrev pub led : {A : Type 0} → Control A → State
-led (Done value state) = state
-led (Exit halt state) = state
+-- what the run has where a part end_state
+abbrev pub end_state : {A : Type 0} → Control A → State
+end_state (Done value state) = state
+end_state (Exit halt state) = state
 
 -- a part leaves no more fuel than it found
 abbrev pub NeverRaisesFuel : {A : Type 0} → Part A → Type 0
-NeverRaisesFuel part = (state : State) → (led (part state)).fuel ≤ state.fuel
+NeverRaisesFuel part = (state : State) → (end_state (part state)).fuel ≤ state.fuel
 
 -- the frame of an object and an invocation, where so many more frames may be open
 abbrev pub frame_in : Typed → Store → ℕ → ℕ → ℕ → Frame

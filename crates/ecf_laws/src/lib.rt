@@ -2,7 +2,7 @@
 //! does nothing.
 #![tactic(auto)]
 
-ghost use Rattle.ecf_laws.specs.Laws.{ChargedIsUsed, EndsWithWrites, FuelAddsUp, FuelNeverRises, FuelWithinLimit, GenesisIsStore, MoreTurnsChangeNothing, OutOfFuelUsesAll, ReadsAreStored, ReadsDiffer, ReadsSeeWrites, RunMakesStore, RunStands, RunsEndLoopsByFuel, SameReadsSameRun, UnansweredLeavesStore, UnansweredWritesNothing, UndoneStepsVanish, WritesAreOfSteps, WritesMakeStore, WritesRise};
+ghost use Rattle.ecf_laws.specs.Laws.{ChargedIsUsed, EndsWithWrites, FuelAddsUp, FuelNeverRises, FuelWithinLimit, MoreTurnsChangeNothing, OutOfFuelUsesAll, ReadsAreStored, ReadsDiffer, ReadsSeeWrites, RunKeepsStore, RunStands, RunsEndLoopsByFuel, SameReadsSameRun, UnansweredLeavesStore, UnansweredWritesNothing, UndoneStepsVanish, WritesAreOfSteps, WritesRise};
 
 /// A run that doesn't answer leaves the store.
 pub fn unanswered_leaves_store()
@@ -84,19 +84,9 @@ pub fn writes_rise()
     ensures { WritesRise }
 {}
 
-/// A store after writes is a store.
-pub fn writes_make_store()
-    ensures { WritesMakeStore }
-{}
-
 /// A store after a run is a store.
-pub fn run_makes_store()
-    ensures { RunMakesStore }
-{}
-
-/// A contract's store before its first transaction is a store.
-pub fn genesis_is_store()
-    ensures { GenesisIsStore }
+pub fn run_keeps_store()
+    ensures { RunKeepsStore }
 {}
 
 /// Two stores that agree on what a run reads give the same run.

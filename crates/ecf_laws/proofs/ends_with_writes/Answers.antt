@@ -1,4 +1,4 @@
-use Rattle.ecf_laws.proofs.Ends as proved
+use Rattle.ecf_laws.proofs.EndLaws as proved
 use Rattle.ecf_laws.proofs.ends_with_writes.Goals as goal
 
 pub returns : goal.returns

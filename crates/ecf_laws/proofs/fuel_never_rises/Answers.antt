@@ -1,4 +1,4 @@
-use Rattle.ecf_laws.proofs.FuelFalls as proved
+use Rattle.ecf_laws.proofs.FuelLaws as proved
 use Rattle.ecf_laws.proofs.fuel_never_rises.Goals as goal
 
 pub returns : goal.returns

@@ -1,4 +1,4 @@
-use Rattle.ecf_laws.proofs.FuelFalls as proved
+use Rattle.ecf_laws.proofs.FuelLaws as proved
 use Rattle.ecf_laws.proofs.more_turns_change_nothing.Goals as goal
 
 pub returns : goal.returns

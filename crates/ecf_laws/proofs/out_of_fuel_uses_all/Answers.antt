@@ -1,4 +1,4 @@
-use Rattle.ecf_laws.proofs.Emptied as proved
+use Rattle.ecf_laws.proofs.OutOfFuelLaws as proved
 use Rattle.ecf_laws.proofs.out_of_fuel_uses_all.Goals as goal
 
 pub returns : goal.returns

@@ -1,4 +1,4 @@
-use Rattle.ecf_laws.proofs.Replayed as proved
+use Rattle.ecf_laws.proofs.ReplayLaws as proved
 use Rattle.ecf_laws.proofs.reads_see_writes.Goals as goal
 
 pub returns : goal.returns

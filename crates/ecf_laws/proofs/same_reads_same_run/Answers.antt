@@ -1,4 +1,4 @@
-use Rattle.ecf_laws.proofs.Stands as proved
+use Rattle.ecf_laws.proofs.DraftLaws as proved
 use Rattle.ecf_laws.proofs.same_reads_same_run.Goals as goal
 
 pub returns : goal.returns

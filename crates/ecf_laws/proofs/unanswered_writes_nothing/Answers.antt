@@ -1,4 +1,4 @@
-use Rattle.ecf_laws.proofs.Ends as proved
+use Rattle.ecf_laws.proofs.EndLaws as proved
 use Rattle.ecf_laws.proofs.unanswered_writes_nothing.Goals as goal
 
 pub returns : goal.returns

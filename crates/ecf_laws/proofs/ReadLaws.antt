@@ -14,10 +14,11 @@ use Rattle.ecf_lang.specs.declared.run.Invocation.{Invocation}
 use Rattle.ecf_lang.specs.Store.{Store, Cells, IsRising, cell_cmp, find_cell, read}
 use Rattle.ecf_lang.specs.Part.{State, Control, Done, Exit, Reverts, RunsOut, Part, after, pay, read_cell, write_cell, attempt_of, with_read, begin}
 use Rattle.ecf_lang.specs.Draft.{AgreesWith}
-use Rattle.ecf_laws.specs.Parts.{led}
-use Rattle.ecf_laws.proofs.Options.{some_is}
-use Rattle.ecf_laws.proofs.Parts as parts
-use Rattle.ecf_laws.proofs.Stores.{cell_cmp_total, cell_exact, set_rises}
+use Rattle.ecf_laws.specs.Parts.{end_state}
+use Rattle.std.proofs.lemmas.Option.{same_Some}
+use Rattle.ecf_laws.proofs.PartLaws as parts
+use Rattle.ecf_stores.specs.OrderLaws.{cell_order_is_total, cell_order_is_exact}
+use Rattle.ecf_stores.specs.PairLaws.{set_keeps_rising}
 
 -- pairs and the cells found among them
 
@@ -27,7 +28,7 @@ found_is (e ∷ es) store cell value agrees h = by (cell_cmp cell e.0) refl h (f
   where
     by : (o : Ordering) → cell_cmp cell e.0 ≡ o → cond (is_eq o) (Some e.1) (find_cell es cell) ≡ Some value → (find_cell es cell ≡ Some value → read store cell ≡ value) → read store cell ≡ value
     by Less is h later = later h
-    by Equal is h later = ap (read store) (cell_exact cell e.0 is) ∙ All-head (λ (p : Cell × ℕ). read store p.0 ≡ p.1) e es agrees ∙ some_is h
+    by Equal is h later = ap (read store) (cell_order_is_exact cell e.0 is) ∙ All-head (λ (p : Cell × ℕ). read store p.0 ≡ p.1) e es agrees ∙ same_Some _ _ h
     by Greater is h later = later h
 
 none_apart : (pairs : Cells) (cell : Cell) → find_cell pairs cell ≡ None → All (λ k. k ≢ cell) (keys_of pairs)
@@ -36,7 +37,7 @@ none_apart (e ∷ es) cell h = by (cell_cmp cell e.0) refl h (none_apart es cell
   where
     apart : (o : Ordering) → cell_cmp cell e.0 ≡ o → is_eq o ≡ false → e.0 ≢ cell
     apart o is not_equal same =
-        let itself : is_eq o ≡ true = ap is_eq (sym is ∙ ap (cell_cmp cell) same ∙ tied_itself cell_cmp_total cell) in
+        let itself : is_eq o ≡ true = ap is_eq (sym is ∙ ap (cell_cmp cell) same ∙ tied_itself cell_order_is_total cell) in
         cc
 
     by : (o : Ordering) → cell_cmp cell e.0 ≡ o → ◌≡◌ {A = Option ℕ} (cond (is_eq o) (Some e.1) (find_cell es cell)) None → (find_cell es cell ≡ None → All (λ k. k ≢ cell) (keys_of es)) → All (λ k. k ≢ cell) (keys_of (e ∷ es))
@@ -53,28 +54,28 @@ all_first P [] ys a = All-nil P
 all_first P (x ∷ xs) ys a = All-cons P x xs (All-head P x (xs ++ ys) a) (all_first P xs ys (All-tail P x (xs ++ ys) a))
 
 -- the reads with one more, unless the cell was written or read
-abbrev with_read : Option ℕ → Option ℕ → Cells → Cell → ℕ → Cells
-with_read w r reads cell value = if is_some w || is_some r then reads else reads ++ (cell, value) ∷ []
+abbrev with_one_read : Option ℕ → Option ℕ → Cells → Cell → ℕ → Cells
+with_one_read w r reads cell value = if is_some w || is_some r then reads else reads ++ (cell, value) ∷ []
 
 abbrev Differ : Cells → Type 0
 Differ reads = AllPairs (λ a b. a ≢ b) (keys_of reads)
 
-reads_differ : (w r : Option ℕ) (reads : Cells) (cell : Cell) (value : ℕ) → find_cell reads cell ≡ r → Differ reads → Differ (with_read w r reads cell value)
+reads_differ : (w r : Option ℕ) (reads : Cells) (cell : Cell) (value : ℕ) → find_cell reads cell ≡ r → Differ reads → Differ (with_one_read w r reads cell value)
 reads_differ (Some v) r reads cell value is h = h
 reads_differ None (Some x) reads cell value is h = h
 reads_differ None None reads cell value is h = subst (AllPairs (λ a b. a ≢ b)) (sym (keys_push reads (cell, value))) (all_pairs_push (λ a b. a ≢ b) (keys_of reads) cell h (λ k d l. All-get_or (λ c. c ≢ cell) (keys_of reads) k d l (none_apart reads cell is)))
 
-reads_agree : (store : Store) (w r : Option ℕ) (reads : Cells) (cell : Cell) → AgreesWith reads store → AgreesWith (with_read w r reads cell (unwrap_or w (read store cell))) store
+reads_agree : (store : Store) (w r : Option ℕ) (reads : Cells) (cell : Cell) → AgreesWith reads store → AgreesWith (with_one_read w r reads cell (unwrap_or w (read store cell))) store
 reads_agree store (Some v) r reads cell h = h
 reads_agree store None (Some x) reads cell h = h
 reads_agree store None None reads cell h = All-push (λ (p : Cell × ℕ). read store p.0 ≡ p.1) reads (cell, read store cell) h refl
 
-reads_grow : (w r : Option ℕ) (reads : Cells) (cell : Cell) (value : ℕ) → (more : Cells) × (with_read w r reads cell value ≡ reads ++ more)
+reads_grow : (w r : Option ℕ) (reads : Cells) (cell : Cell) (value : ℕ) → (more : Cells) × (with_one_read w r reads cell value ≡ reads ++ more)
 reads_grow (Some v) r reads cell value = ([], sym (append-nil reads))
 reads_grow None (Some x) reads cell value = ([], sym (append-nil reads))
 reads_grow None None reads cell value = ((cell, value) ∷ [], refl)
 
-value_same : (A B : Store) (w r : Option ℕ) (reads : Cells) (cell : Cell) → find_cell reads cell ≡ r → AgreesWith reads A → AgreesWith (with_read w r reads cell (unwrap_or w (read A cell))) B → unwrap_or w (read B cell) ≡ unwrap_or w (read A cell)
+value_same : (A B : Store) (w r : Option ℕ) (reads : Cells) (cell : Cell) → find_cell reads cell ≡ r → AgreesWith reads A → AgreesWith (with_one_read w r reads cell (unwrap_or w (read A cell))) B → unwrap_or w (read B cell) ≡ unwrap_or w (read A cell)
 value_same A B (Some v) r reads cell is a b = refl
 value_same A B None (Some x) reads cell is a b = found_is reads B cell x b is ∙ sym (found_is reads A cell x a is)
 value_same A B None None reads cell is a b = All-contains (λ (p : Cell × ℕ). read B p.0 ≡ p.1) (reads ++ (cell, read A cell) ∷ []) (cell, read A cell) b (Contains-push reads (cell, read A cell))
@@ -88,15 +89,15 @@ module _ (A B : Store) where
 
   -- a part on the first store, and the same part on the second: the same where that agrees with what the first read
   pub record Goes (s : State) {T : Type 0} (r t : Control T) : Type 0 where
-    pub sound : Sound (led r)
-    pub more : (more : Cells) × ((led r).reads ≡ s.reads ++ more)
-    pub same : AgreesWith (led r).reads B → t ≡ r
+    pub sound : Sound (end_state r)
+    pub more : (more : Cells) × ((end_state r).reads ≡ s.reads ++ more)
+    pub same : AgreesWith (end_state r).reads B → t ≡ r
 
   abbrev pub Same : (T : Type 0) → Option ℕ → Part T → Part T → Type 0
   Same T o m n = (s : State) → Sound s → Goes s (m s) (n s)
 
   -- a part that neither reads nor writes
-  still : {T : Type 0} (s : State) (r : Control T) → Sound s → (led r).reads ≡ s.reads → (led r).written ≡ s.written → Goes s r r
+  still : {T : Type 0} (s : State) (r : Control T) → Sound s → (end_state r).reads ≡ s.reads → (end_state r).written ≡ s.written → Goes s r r
   still s r h reads written = record {
     sound = record {
       reads_are = subst (λ l. AgreesWith l A) (sym reads) h.reads_are;
@@ -133,7 +134,7 @@ module _ (A B : Store) where
   write_goes : (inv : ℕ) (cell : Cell) (value : ℕ) → Same (Unit {0}) (Some inv) (write_cell inv cell value) (write_cell inv cell value)
   unfolding write_cell
   write_goes inv cell value s h = record {
-    sound = record { reads_are = h.reads_are; differ = h.differ; rising = set_rises s.written cell value h.rising };
+    sound = record { reads_are = h.reads_are; differ = h.differ; rising = set_keeps_rising s.written cell value h.rising };
     more = ([], sym (append-nil s.reads));
     same = λ _. refl;
   }
@@ -162,7 +163,7 @@ module _ (A B : Store) where
   unfolding attempt_of
   tried_goes inv {m} {n} h s before = caught_goes s (m s) (n s) before (h s before)
 
-  pub closed : parts.Closed A B Same
+  pub closed : parts.IsClosed A B Same
   closed = record {
     pures = λ x s h. still s _ h refl refl;
     reverts = λ cause s h. still s _ h refl refl;

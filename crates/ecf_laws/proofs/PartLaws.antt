@@ -1,7 +1,10 @@
--- What is kept by each way in which parts of a run are made holds of what every form does, on two stores at once.
+-- The induction over a whole run. A relation of parts of runs that each way of making parts keeps holds of what any
+-- form, call or transaction does on two stores.
 use Rattle.std.proofs.Common.{ℕ, zero, suc, Bool, true, false, List, [], ◌∷◌, Option, Some, None}
 use Rattle.std.specs.Prelude.{if◌then◌else◌, length, nat_lt}
 use Rattle.ecf_lang.specs.declared.cell.Cell.{Cell}
+use Rattle.ecf_lang.specs.declared.costs.TheConstants.{TURN}
+use Rattle.ecf_lang.specs.declared.limits.TheConstants.{MAX_FRAMES, MAX_INVOCATIONS}
 use Rattle.ecf_lang.specs.declared.run.Cause.{Cause}
 use Rattle.ecf_lang.specs.declared.run.Cause.TheVariants.{NoMethod, Depth, Calls}
 use Rattle.ecf_lang.specs.declared.typed.Typed.{Typed}
@@ -14,11 +17,11 @@ use Rattle.ecf_lang.specs.declared.tx.TxCall.{TxCall}
 use Rattle.ecf_lang.specs.Fits.{method_at}
 use Rattle.ecf_lang.specs.Store.{Store}
 use Rattle.ecf_lang.specs.Part.{State, Exit, RunsOut, Part, ◌>>=◌, pure, revert, pay, read_cell, write_cell, note, with_heard, with_answer, begin, attempt_of}
-use Rattle.ecf_laws.proofs.Frames as frames
+use Rattle.ecf_laws.specs.FrameLaws as frames
 use Rattle.ecf_lang.specs.Meaning.{Opens, Frame, Flow, Continues, Returns, Action, go_on, value_of, answer_of, stmt_of, block_of, at_zero, turns, Ways, ways, one_deeper, invoke, body_of, opens_of, calls_of}
 
 -- the ways in which parts are made keep the relation: of a part in an invocation, or of one that is in none
-pub record Closed (A B : Store) (R : (T : Type 0) → Option ℕ → Part T → Part T → Type 0) : Type 1 where
+pub record IsClosed (A B : Store) (R : (T : Type 0) → Option ℕ → Part T → Part T → Type 0) : Type 1 where
   pub pures : {T : Type 0} {o : Option ℕ} (x : T) → R _ o (pure x) (pure x)
   pub reverts : {T : Type 0} {o : Option ℕ} (cause : Cause) → R T o (revert cause) (revert cause)
   pub ends : {T : Type 0} {o : Option ℕ} → R T o (λ s. Exit RunsOut (record s { fuel = 0 })) (λ s. Exit RunsOut (record s { fuel = 0 }))
@@ -33,7 +36,7 @@ pub record Closed (A B : Store) (R : (T : Type 0) → Option ℕ → Part T → 
   pub tries : (inv : ℕ) {m n : Part ℕ} → R _ None m n → R _ (Some inv) (attempt_of m) (attempt_of n)
   pub widens : {T : Type 0} {o : Option ℕ} {m n : Part T} → R _ None m n → R _ o m n
 
-module _ (A B : Store) (R : (T : Type 0) → Option ℕ → Part T → Part T → Type 0) (closed : Closed A B R) where
+module _ (A B : Store) (R : (T : Type 0) → Option ℕ → Part T → Part T → Type 0) (closed : IsClosed A B R) where
   if_so : {T : Type 0} {o : Option ℕ} (b : Bool) {k l m n : Part T} → R _ o k l → R _ o m n → R _ o (if b then k else m) (if b then l else n)
   if_so true h i = h
   if_so false h i = i
@@ -57,10 +60,10 @@ module _ (A B : Store) (R : (T : Type 0) → Option ℕ → Part T → Part T �
     turns_alike : (a b : Opens) (cond : TypedExpr) (d e : Action) → ((locals : List ℕ) → R _ (Some inv) (value_of A (frame a) locals cond) (value_of B (frame b) locals cond)) → ((locals : List ℕ) → R _ (Some inv) (d locals) (e locals)) → (n : ℕ) (locals : List ℕ) → R _ (Some inv) (turns A (frame a) n cond d locals) (turns B (frame b) n cond e locals)
     unfolding turns
     turns_alike a b cond d e conds bodies zero locals = closed.ends
-    turns_alike a b cond d e conds bodies (suc n) locals = closed.binds (conds locals) (λ x. zero_or x (closed.pures (Continues locals)) (closed.binds (closed.pays inv 1) (λ _. closed.binds (bodies locals) (λ flow. on_alike flow _ _ (λ after. turns_alike a b cond d e conds bodies n after)))))
+    turns_alike a b cond d e conds bodies (suc n) locals = closed.binds (conds locals) (λ x. zero_or x (closed.pures (Continues locals)) (closed.binds (closed.pays inv TURN) (λ _. closed.binds (bodies locals) (λ flow. on_alike flow _ _ (λ after. turns_alike a b cond d e conds bodies n after)))))
 
     -- the ways in which parts are made in a frame keep the relation
-    in_frame : frames.Closed A B here inv inv (λ T. R T (Some inv))
+    in_frame : frames.IsClosed A B here inv inv (λ T. R T (Some inv))
     in_frame = record {
       pures = λ x. closed.pures x;
       reverts = λ cause. closed.reverts cause;
@@ -107,7 +110,7 @@ module _ (A B : Store) (R : (T : Type 0) → Option ℕ → Part T → Part T �
     deeper_alike : (v w : Ways) → WaysAlike v w → WaysAlike (one_deeper typed A v) (one_deeper typed B w)
     deeper_alike v w h = record {
       within = λ here inv name args. body_alike here inv (opens_of v here inv) (opens_of w here inv) (opens_alike v w h here inv) (method_at typed here name) args;
-      anew = λ to name args. closed.looks (λ s. if_so (nat_lt (length s.invocations) 1024) (invoke_alike v w h to (method_at typed to name) name args) (closed.reverts Calls));
+      anew = λ to name args. closed.looks (λ s. if_so (nat_lt (length s.invocations) MAX_INVOCATIONS) (invoke_alike v w h to (method_at typed to name) name args) (closed.reverts Calls));
     }
 
     pub ways_alike : (room : ℕ) → WaysAlike (ways typed A room) (ways typed B room)
@@ -117,5 +120,5 @@ module _ (A B : Store) (R : (T : Type 0) → Option ℕ → Part T → Part T �
 
     pub calls_alike : (calls : List TxCall) → R _ None (calls_of typed A calls) (calls_of typed B calls)
     calls_alike [] = closed.pures 0
-    calls_alike (call ∷ []) = (ways_alike 64).anew call.object call.method call.args
-    calls_alike (call ∷ next ∷ calls) = closed.binds ((ways_alike 64).anew call.object call.method call.args) (λ _. calls_alike (next ∷ calls))
+    calls_alike (call ∷ []) = (ways_alike MAX_FRAMES).anew call.object call.method call.args
+    calls_alike (call ∷ next ∷ calls) = closed.binds ((ways_alike MAX_FRAMES).anew call.object call.method call.args) (λ _. calls_alike (next ∷ calls))

@@ -7,7 +7,7 @@ use Rattle.ecf_lang.specs.Store.{Store}
 use Rattle.ecf_lang.specs.Part.{State, Control, Done, Exit, Reverts, RunsOut, Part, after, pay, read_cell, write_cell, attempt_of}
 use Rattle.ecf_lang.specs.Meaning.{run, result_of, calls_of, initial_state}
 use Rattle.ecf_laws.specs.Laws.{OutOfFuelUsesAll}
-use Rattle.ecf_laws.proofs.Parts as parts
+use Rattle.ecf_laws.proofs.PartLaws as parts
 
 -- no fuel is left where a part ran out of it
 abbrev Emptied : {T : Type 0} → Control T → Type 0
@@ -34,7 +34,7 @@ caught_emptied s (Exit (Reverts cause) t) h = tt
 caught_emptied s (Exit RunsOut t) h = h
 
 module _ (store : Store) where
-  closed : parts.Closed store store Empties
+  closed : parts.IsClosed store store Empties
   unfolding pay read_cell write_cell attempt_of
   closed = record {
     pures = λ x s. tt;

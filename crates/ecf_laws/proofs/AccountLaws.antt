@@ -11,10 +11,10 @@ use Rattle.ecf_lang.specs.declared.run.Step.{Step}
 use Rattle.ecf_lang.specs.declared.run.Invocation.{Invocation}
 use Rattle.ecf_lang.specs.Store.{Store}
 use Rattle.ecf_lang.specs.Part.{State, Control, Done, Exit, Reverts, RunsOut, Part, after, pay, read_cell, write_cell, attempt_of, begin, note, with_change, with_charge, with_heard, with_answer, as_undone}
-use Rattle.ecf_laws.specs.Parts.{led}
-use Rattle.ecf_laws.proofs.Options.{some_is}
-use Rattle.ecf_laws.specs.Laws.{charged_in}
-use Rattle.ecf_laws.proofs.Parts as parts
+use Rattle.ecf_laws.specs.Parts.{end_state}
+use Rattle.std.proofs.lemmas.Option.{same_Some}
+use Rattle.ecf_laws.specs.Laws.{total_charge}
+use Rattle.ecf_laws.proofs.PartLaws as parts
 
 -- which of the invocations were undone
 abbrev pub marks : List Invocation → List Bool
@@ -26,7 +26,7 @@ map_append (x ∷ xs) ys = ap (λ l. x.undone ∷ l) (map_append xs ys)
 
 pub get_marked : (xs : List Invocation) (n : ℕ) (b : Bool) → slice_get (marks xs) n ≡ Some b → (x : Invocation) × ((slice_get xs n ≡ Some x) × (x.undone ≡ b))
 get_marked [] n b h = absurd (cc)
-get_marked (x ∷ xs) zero b h = (x, (refl, some_is h))
+get_marked (x ∷ xs) zero b h = (x, (refl, same_Some _ _ h))
 get_marked (x ∷ xs) (suc n) b h = get_marked xs n b h
 
 get_more : (xs ys : List Bool) (n : ℕ) (b : Bool) → slice_get xs n ≡ Some b → slice_get (xs ++ ys) n ≡ Some b
@@ -40,13 +40,13 @@ get_new (x ∷ xs) new = get_new xs new
 
 set_marks : (xs : List Invocation) (n : ℕ) (x y : Invocation) → slice_get xs n ≡ Some x → y.undone ≡ x.undone → marks (slice_set xs n y) ≡ marks xs
 set_marks [] n x y h e = absurd (cc)
-set_marks (z ∷ xs) zero x y h e = ap (λ b. b ∷ marks xs) (e ∙ ap (λ (i : Invocation). i.undone) (sym (some_is h)))
+set_marks (z ∷ xs) zero x y h e = ap (λ b. b ∷ marks xs) (e ∙ ap (λ (i : Invocation). i.undone) (sym (same_Some _ _ h)))
 set_marks (z ∷ xs) (suc n) x y h e = ap (λ l. z.undone ∷ l) (set_marks xs n x y h e)
 
-set_charged : (xs : List Invocation) (n k : ℕ) (x y : Invocation) → slice_get xs n ≡ Some x → y.own_fuel ≡ x.own_fuel + k → charged_in (slice_set xs n y) ≡ charged_in xs + k
+set_charged : (xs : List Invocation) (n k : ℕ) (x y : Invocation) → slice_get xs n ≡ Some x → y.own_fuel ≡ x.own_fuel + k → total_charge (slice_set xs n y) ≡ total_charge xs + k
 set_charged [] n k x y h e = absurd (cc)
 set_charged (z ∷ xs) zero k x y h e =
-    let same : z.own_fuel ≡ x.own_fuel = ap (λ (i : Invocation). i.own_fuel) (some_is h) in
+    let same : z.own_fuel ≡ x.own_fuel = ap (λ (i : Invocation). i.own_fuel) (same_Some _ _ h) in
     omega (arith, sum_by-cons (λ (i : Invocation). i.own_fuel) y xs, sum_by-cons (λ (i : Invocation). i.own_fuel) z xs)
 set_charged (z ∷ xs) (suc n) k x y h e =
     omega (arith, set_charged xs n k x y h e, sum_by-cons (λ (i : Invocation). i.own_fuel) z (slice_set xs n y), sum_by-cons (λ (i : Invocation). i.own_fuel) z xs)
@@ -54,7 +54,7 @@ set_charged (z ∷ xs) (suc n) k x y h e =
 -- invocations of which one was changed, but not its mark
 pub record Keeps (k : ℕ) (old new : List Invocation) : Type 0 where
   pub marks_same : marks new ≡ marks old
-  pub charges : charged_in new ≡ charged_in old + k
+  pub charges : total_charge new ≡ total_charge old + k
 
 changed_keeps : (k : ℕ) (change : Invocation → Invocation) → ((one : Invocation) → (change one).undone ≡ one.undone) → ((one : Invocation) → (change one).own_fuel ≡ one.own_fuel + k) → (xs : List Invocation) (n : ℕ) → slice_get (marks xs) n ≡ Some false → Keeps k xs (with_change change xs n)
 changed_keeps k change mark charge xs n h =
@@ -62,7 +62,7 @@ changed_keeps k change mark charge xs n h =
     subst (λ o. Keeps k xs (option_map_or (λ x. slice_set xs n (change x)) o xs)) (sym one.1.0)
     (record { marks_same = set_marks xs n one.0 (change one.0) one.1.0 (mark one.0); charges = set_charged xs n k one.0 (change one.0) one.1.0 (charge one.0) })
 
-undone_charged : (xs : List Invocation) → charged_in (map as_undone xs) ≡ charged_in xs
+undone_charged : (xs : List Invocation) → total_charge (map as_undone xs) ≡ total_charge xs
 undone_charged [] = refl
 undone_charged (x ∷ xs) = omega (arith, undone_charged xs, sum_by-cons (λ (i : Invocation). i.own_fuel) x xs, sum_by-cons (λ (i : Invocation). i.own_fuel) (as_undone x) (map as_undone xs))
 
@@ -86,15 +86,15 @@ StepsStand marked steps = All (λ step. slice_get marked step.inv ≡ Some false
 
 -- the fuel left and the fuel charged make what there was, or less where the fuel ran out
 abbrev pub Spent : ℕ → {T : Type 0} → Control T → Type 0
-Spent before (Done x t) = t.fuel + charged_in t.invocations ≡ before
-Spent before (Exit (Reverts cause) t) = t.fuel + charged_in t.invocations ≡ before
-Spent before (Exit RunsOut t) = t.fuel + charged_in t.invocations ≤ before
+Spent before (Done x t) = t.fuel + total_charge t.invocations ≡ before
+Spent before (Exit (Reverts cause) t) = t.fuel + total_charge t.invocations ≡ before
+Spent before (Exit RunsOut t) = t.fuel + total_charge t.invocations ≤ before
 
 -- from a state: earlier marks stay, steps are of invocations that stand, and fuel is spent where it is charged
 pub record Kept (s : State) {T : Type 0} (r : Control T) : Type 0 where
-  pub more : (more : List Bool) × (marks (led r).invocations ≡ marks s.invocations ++ more)
-  pub steps : StepsStand (marks s.invocations) s.steps → StepsStand (marks (led r).invocations) (led r).steps
-  pub spent : Spent (s.fuel + charged_in s.invocations) r
+  pub more : (more : List Bool) × (marks (end_state r).invocations ≡ marks s.invocations ++ more)
+  pub steps : StepsStand (marks s.invocations) s.steps → StepsStand (marks (end_state r).invocations) (end_state r).steps
+  pub spent : Spent (s.fuel + total_charge s.invocations) r
 
 abbrev pub Accounts : (T : Type 0) → Option ℕ → Part T → Part T → Type 0
 Accounts T o m n = (s : State) → Stands o s → Kept s (m s)
@@ -172,7 +172,7 @@ begin_kept object method args s = record {
 back_marks : (xs us : List Invocation) (more : List Bool) → marks us ≡ marks xs ++ more → marks (take (length xs) us ++ map as_undone (drop (length xs) us)) ≡ marks xs ++ marks (map as_undone (drop (length xs) us))
 back_marks xs us more h = map_append (take (length xs) us) (map as_undone (drop (length xs) us)) ∙ ap (λ l. l ++ marks (map as_undone (drop (length xs) us))) (take_marks xs us more h)
 
-back_charged : (n : ℕ) (us : List Invocation) → charged_in (take n us ++ map as_undone (drop n us)) ≡ charged_in us
+back_charged : (n : ℕ) (us : List Invocation) → total_charge (take n us ++ map as_undone (drop n us)) ≡ total_charge us
 back_charged n us = omega (arith, sum_by-append (λ (i : Invocation). i.own_fuel) (take n us) (map as_undone (drop n us)), undone_charged (drop n us), sum_by-take-drop (λ (i : Invocation). i.own_fuel) us n)
 
 caught_kept : (s : State) (r : Control ℕ) → Kept s r → Kept s (attempt_of (λ _. r) s)
@@ -190,7 +190,7 @@ unfolding attempt_of
 tried_kept inv m n h s stands = caught_kept s (m s) (h s tt)
 
 module _ (store : Store) where
-  pub closed : parts.Closed store store Accounts
+  pub closed : parts.IsClosed store store Accounts
   closed = record {
     pures = λ x s h. record { more = same_marks (marks s.invocations); steps = λ before. before; spent = refl };
     reverts = λ cause s h. record { more = same_marks (marks s.invocations); steps = λ before. before; spent = refl };

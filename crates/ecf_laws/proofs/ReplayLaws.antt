@@ -10,10 +10,10 @@ use Rattle.ecf_lang.specs.declared.typed.Typed.{Typed}
 use Rattle.ecf_lang.specs.Store.{Store, Cells, find_cell, read, set}
 use Rattle.ecf_lang.specs.Part.{State, Control, Done, Exit, Reverts, RunsOut, Part, after, pay, read_cell, write_cell, attempt_of}
 use Rattle.ecf_lang.specs.Meaning.{run, result_of, calls_of, initial_state}
-use Rattle.ecf_laws.specs.Parts.{led}
+use Rattle.ecf_laws.specs.Parts.{end_state}
 use Rattle.ecf_laws.specs.Replay.{after_step, after_steps, IsSeen, AreSeen}
 use Rattle.ecf_laws.specs.Laws.{ReadsSeeWrites, WritesAreOfSteps}
-use Rattle.ecf_laws.proofs.Parts as parts
+use Rattle.ecf_laws.proofs.PartLaws as parts
 
 after_push : (written : Cells) (steps : List Step) (step : Step) → after_steps written (steps ++ step ∷ []) ≡ after_step (after_steps written steps) step
 after_push written [] step = refl
@@ -30,37 +30,37 @@ module _ (store : Store) where
     pub seen : AreSeen store [] s.steps
 
   abbrev pub Replays : (T : Type 0) → Option ℕ → Part T → Part T → Type 0
-  Replays T o m n = (s : State) → Replayed s → Replayed (led (m s))
+  Replays T o m n = (s : State) → Replayed s → Replayed (end_state (m s))
 
-  after_replayed : {S T : Type 0} (r : Control S) (f : S → Part T) → Replayed (led r) → ((x : S) (s : State) → Replayed s → Replayed (led (f x s))) → Replayed (led (after r f))
+  after_replayed : {S T : Type 0} (r : Control S) (f : S → Part T) → Replayed (end_state r) → ((x : S) (s : State) → Replayed s → Replayed (end_state (f x s))) → Replayed (end_state (after r f))
   after_replayed (Done x s) f h k = k x s h
   after_replayed (Exit halt s) f h k = h
 
-  paid_replayed : (n : ℕ) (s : State) (invocations : List Invocation) (b : Bool) → Replayed s → Replayed (led {A = Unit {0}} (if b then Done tt (record s { fuel = s.fuel - n; invocations = invocations }) else Exit RunsOut (record s { fuel = 0 })))
+  paid_replayed : (n : ℕ) (s : State) (invocations : List Invocation) (b : Bool) → Replayed s → Replayed (end_state {A = Unit {0}} (if b then Done tt (record s { fuel = s.fuel - n; invocations = invocations }) else Exit RunsOut (record s { fuel = 0 })))
   paid_replayed n s invocations true h = record { written = h.written; seen = h.seen }
   paid_replayed n s invocations false h = record { written = h.written; seen = h.seen }
 
-  read_replayed : (inv : ℕ) (cell : Cell) (s : State) → Replayed s → Replayed (led (read_cell store inv cell s))
+  read_replayed : (inv : ℕ) (cell : Cell) (s : State) → Replayed s → Replayed (end_state (read_cell store inv cell s))
   unfolding read_cell
   read_replayed inv cell s h = record {
     written = h.written ∙ sym (after_push [] s.steps _);
     seen = seen_push store [] s.steps _ h.seen (λ _. ap (λ l. unwrap_or (find_cell l cell) (read store cell)) h.written);
   }
 
-  write_replayed : (inv : ℕ) (cell : Cell) (value : ℕ) (s : State) → Replayed s → Replayed (led (write_cell inv cell value s))
+  write_replayed : (inv : ℕ) (cell : Cell) (value : ℕ) (s : State) → Replayed s → Replayed (end_state (write_cell inv cell value s))
   unfolding write_cell
   write_replayed inv cell value s h = record {
     written = ap (λ l. set l cell value) h.written ∙ sym (after_push [] s.steps _);
     seen = seen_push store [] s.steps _ h.seen (λ not_read. absurd (cc));
   }
 
-  caught_replayed : (s : State) (r : Control ℕ) → Replayed s → Replayed (led r) → Replayed (led (attempt_of (λ _. r) s))
+  caught_replayed : (s : State) (r : Control ℕ) → Replayed s → Replayed (end_state r) → Replayed (end_state (attempt_of (λ _. r) s))
   unfolding attempt_of
   caught_replayed s (Done x t) before h = h
   caught_replayed s (Exit (Reverts cause) t) before h = record { written = before.written; seen = before.seen }
   caught_replayed s (Exit RunsOut t) before h = h
 
-  closed : parts.Closed store store Replays
+  closed : parts.IsClosed store store Replays
   unfolding pay attempt_of
   closed = record {
     pures = λ x s h. h;
@@ -78,14 +78,14 @@ module _ (store : Store) where
     widens = λ h. h;
   }
 
-  pub replayed : (typed : Typed) (tx : Tx) → Replayed (led (calls_of typed store tx.calls (initial_state tx.fuel)))
+  pub replayed : (typed : Typed) (tx : Tx) → Replayed (end_state (calls_of typed store tx.calls (initial_state tx.fuel)))
   replayed typed tx = parts.calls_alike store store Replays closed typed tx.calls (initial_state tx.fuel) (record { written = refl; seen = tt })
 
-  seen_of : (limit : ℕ) (r : Control ℕ) → Replayed (led r) → AreSeen store [] (result_of store limit r).steps
+  seen_of : (limit : ℕ) (r : Control ℕ) → Replayed (end_state r) → AreSeen store [] (result_of store limit r).steps
   seen_of limit (Done x t) h = h.seen
   seen_of limit (Exit halt t) h = h.seen
 
-  written_of : (limit : ℕ) (r : Control ℕ) (value : ℕ) → Replayed (led r) → (result_of store limit r).outcome ≡ Answer value → (result_of store limit r).writes ≡ after_steps [] (result_of store limit r).steps
+  written_of : (limit : ℕ) (r : Control ℕ) (value : ℕ) → Replayed (end_state r) → (result_of store limit r).outcome ≡ Answer value → (result_of store limit r).writes ≡ after_steps [] (result_of store limit r).steps
   written_of limit (Done x t) value h is = h.written
   written_of limit (Exit (Reverts cause) t) value h is = absurd (cc)
   written_of limit (Exit RunsOut t) value h is = absurd (cc)

@@ -1,6 +1,8 @@
--- What is kept by each way in which parts of a run are made holds of what every form does, in two frames of one object.
+-- The induction over the forms of the language. A relation of parts of runs that each way of making parts keeps
+-- holds of what any form does in two frames of one object.
 use Rattle.std.proofs.Common.{◌≡◌, ℕ, zero, suc, List, [], ◌∷◌, map, Option, Some, None, sym, subst}
 use Rattle.std.specs.Prelude.{Result, Ok, Err}
+use Rattle.ecf_lang.specs.declared.costs.TheConstants.{STATEMENT, LEAF, READ, WRITE, OPERATOR, TEST, EXTERNAL_CALL, INTERNAL_CALL}
 use Rattle.ecf_lang.specs.declared.run.Cause.{Cause}
 use Rattle.ecf_lang.specs.declared.run.Cause.TheVariants.{User, NoMethod}
 use Rattle.ecf_lang.specs.declared.tree.Op.{Op}
@@ -18,7 +20,7 @@ use Rattle.ecf_lang.specs.Part.{Part, ◌>>=◌, pure, revert, pay, read_cell, w
 use Rattle.ecf_lang.specs.Meaning.{Opens, Frame, Flow, Continues, Returns, Action, go_on, value_of, answer_of, expr_step, call_step, stmt_of, block_of, stmt_step, block_step, name_value, chain, all_true, any_true, first_then, each, at_zero, or_revert, op_value, sequence, flag_of, branch, turns, assign, body_of, locals_of, flow_answer}
 
 -- the ways in which parts are made keep the relation of a part in one frame of an object to the same part in another
-pub record Closed (A B : Store) (here i j : ℕ) (R : (T : Type 0) → Part T → Part T → Type 0) : Type 1 where
+pub record IsClosed (A B : Store) (here i j : ℕ) (R : (T : Type 0) → Part T → Part T → Type 0) : Type 1 where
   pub pures : {T : Type 0} (x : T) → R _ (pure x) (pure x)
   pub reverts : {T : Type 0} (cause : Cause) → R T (revert cause) (revert cause)
   pub binds : {S T : Type 0} {m n : Part S} {f g : S → Part T} → R _ m n → ((x : S) → R _ (f x) (g x)) → R _ (m >>= f) (n >>= g)
@@ -36,7 +38,7 @@ pub record OpensAlike (R : (T : Type 0) → Part T → Part T → Type 0) (a b :
   pub external : (to name : ℕ) (args : List ℕ) → R _ (a.external to name args) (b.external to name args)
   pub attempt : (to name : ℕ) (args : List ℕ) → R _ (a.attempt to name args) (b.attempt to name args)
 
-module _ (A B : Store) (here i j : ℕ) (R : (T : Type 0) → Part T → Part T → Type 0) (closed : Closed A B here i j R) where
+module _ (A B : Store) (here i j : ℕ) (R : (T : Type 0) → Part T → Part T → Type 0) (closed : IsClosed A B here i j R) where
   or_reverts : (r : Result ℕ Cause) → R _ (or_revert r) (or_revert r)
   or_reverts (Ok v) = closed.pures v
   or_reverts (Err cause) = closed.reverts cause
@@ -64,15 +66,15 @@ module _ (A B : Store) (here i j : ℕ) (R : (T : Type 0) → Part T → Part T 
 
       chained : (x : ℕ) (rest : List (Op × ((e : TypedExpr) × Value e))) → Alike (chain A f x (map (λ (p : Op × TypedExpr). (p.0, value_of A f locals p.1)) (map (λ (p : Op × ((e : TypedExpr) × Value e)). (p.0, p.1.0)) rest))) (chain B g x (map (λ (p : Op × TypedExpr). (p.0, value_of B g locals p.1)) (map (λ (p : Op × ((e : TypedExpr) × Value e)). (p.0, p.1.0)) rest)))
       chained x [] = closed.pures x
-      chained x (p ∷ rest) = closed.binds p.1.1 (λ y. closed.binds (closed.pays 1) (λ _. closed.binds (or_reverts (op_value p.0 x y)) (λ z. chained z rest)))
+      chained x (p ∷ rest) = closed.binds p.1.1 (λ y. closed.binds (closed.pays OPERATOR) (λ _. closed.binds (or_reverts (op_value p.0 x y)) (λ z. chained z rest)))
 
       all_trues : (x : ℕ) (es : List ((e : TypedExpr) × Value e)) → Alike (all_true A f x (map (value_of A f locals) (map (λ e. e.0) es))) (all_true B g x (map (value_of B g locals) (map (λ e. e.0) es)))
       all_trues x [] = closed.pures x
-      all_trues x (e ∷ es) = closed.binds (closed.pays 1) (λ _. zero_or x (closed.pures x) (closed.binds e.1 (λ y. all_trues y es)))
+      all_trues x (e ∷ es) = closed.binds (closed.pays TEST) (λ _. zero_or x (closed.pures x) (closed.binds e.1 (λ y. all_trues y es)))
 
       any_trues : (x : ℕ) (es : List ((e : TypedExpr) × Value e)) → Alike (any_true A f x (map (value_of A f locals) (map (λ e. e.0) es))) (any_true B g x (map (value_of B g locals) (map (λ e. e.0) es)))
       any_trues x [] = closed.pures x
-      any_trues x (e ∷ es) = closed.binds (closed.pays 1) (λ _. zero_or x (closed.binds e.1 (λ y. any_trues y es)) (closed.pures x))
+      any_trues x (e ∷ es) = closed.binds (closed.pays TEST) (λ _. zero_or x (closed.binds e.1 (λ y. any_trues y es)) (closed.pures x))
 
       eaches : (es : List ((e : TypedExpr) × Value e)) (p q : List ℕ → Part ℕ) → ((xs : List ℕ) → Alike (p xs) (q xs)) → Alike (each A f (map (value_of A f locals) (map (λ e. e.0) es)) p) (each B g (map (value_of B g locals) (map (λ e. e.0) es)) q)
       eaches [] p q h = h []
@@ -87,30 +89,30 @@ module _ (A B : Store) (here i j : ℕ) (R : (T : Type 0) → Part T → Part T 
       firsts_or (e ∷ es) = closed.binds e.1 (λ x. any_trues x es)
 
       names : (p : Place) → Alike (name_value A f locals p) (name_value B g locals p)
-      names (place.Local n) = closed.binds (closed.pays 1) (λ _. closed.pures _)
-      names (place.Plain field) = closed.binds (closed.pays 3) (λ _. closed.reads field 0)
-      names (place.Object object) = closed.binds (closed.pays 1) (λ _. closed.pures object)
+      names (place.Local n) = closed.binds (closed.pays LEAF) (λ _. closed.pures _)
+      names (place.Plain field) = closed.binds (closed.pays READ) (λ _. closed.reads field 0)
+      names (place.Object object) = closed.binds (closed.pays LEAF) (λ _. closed.pures object)
 
       abbrev Parts : Type 0
       Parts = TypedExpr-F ((c : TypedCall) × Answer c) ((e : TypedExpr) × Value e)
 
       expr_layer : (y : Parts) → Alike (expr_step A f locals (map-TypedExpr _ _ _ _ (answer_of A f locals) (value_of A f locals) (map-TypedExpr _ _ _ _ (λ c. c.0) (λ e. e.0) y))) (expr_step B g locals (map-TypedExpr _ _ _ _ (answer_of B g locals) (value_of B g locals) (map-TypedExpr _ _ _ _ (λ c. c.0) (λ e. e.0) y)))
-      expr_layer (TypedExpr-F.Number v) = closed.binds (closed.pays 1) (λ _. closed.pures v)
-      expr_layer (TypedExpr-F.Flag v) = closed.binds (closed.pays 1) (λ _. closed.pures (flag_of v))
-      expr_layer TypedExpr-F.Here = closed.binds (closed.pays 1) (λ _. closed.pures here)
+      expr_layer (TypedExpr-F.Number v) = closed.binds (closed.pays LEAF) (λ _. closed.pures v)
+      expr_layer (TypedExpr-F.Flag v) = closed.binds (closed.pays LEAF) (λ _. closed.pures (flag_of v))
+      expr_layer TypedExpr-F.Here = closed.binds (closed.pays LEAF) (λ _. closed.pures here)
       expr_layer (TypedExpr-F.Name p) = names p
-      expr_layer (TypedExpr-F.At field key) = closed.binds key.1 (λ k. closed.binds (closed.pays 3) (λ _. closed.reads field k))
+      expr_layer (TypedExpr-F.At field key) = closed.binds key.1 (λ k. closed.binds (closed.pays READ) (λ _. closed.reads field k))
       expr_layer (TypedExpr-F.Call call) = call.1
-      expr_layer (TypedExpr-F.Not e) = closed.binds e.1 (λ x. closed.binds (closed.pays 1) (λ _. closed.pures (at_zero x 1 0)))
+      expr_layer (TypedExpr-F.Not e) = closed.binds e.1 (λ x. closed.binds (closed.pays OPERATOR) (λ _. closed.pures (at_zero x 1 0)))
       expr_layer (TypedExpr-F.Product first rest) = closed.binds first.1 (λ x. chained x rest)
       expr_layer (TypedExpr-F.Sum first rest) = closed.binds first.1 (λ x. chained x rest)
-      expr_layer (TypedExpr-F.Compare left op right) = closed.binds left.1 (λ x. closed.binds right.1 (λ y. closed.binds (closed.pays 1) (λ _. or_reverts (op_value op x y))))
+      expr_layer (TypedExpr-F.Compare left op right) = closed.binds left.1 (λ x. closed.binds right.1 (λ y. closed.binds (closed.pays OPERATOR) (λ _. or_reverts (op_value op x y))))
       expr_layer (TypedExpr-F.And parts) = firsts_and parts
       expr_layer (TypedExpr-F.Or parts) = firsts_or parts
 
       call_layer : (y : TypedCall-F ((c : TypedCall) × Answer c) ((e : TypedExpr) × Value e)) → Alike (call_step A f (map-TypedCall _ _ _ _ (answer_of A f locals) (value_of A f locals) (map-TypedCall _ _ _ _ (λ c. c.0) (λ e. e.0) y))) (call_step B g (map-TypedCall _ _ _ _ (answer_of B g locals) (value_of B g locals) (map-TypedCall _ _ _ _ (λ c. c.0) (λ e. e.0) y)))
-      call_layer (TypedCall-F.External target name args) = closed.binds target.1 (λ to. eaches args _ _ (λ xs. closed.binds (closed.pays 11) (λ _. opens.external to name xs)))
-      call_layer (TypedCall-F.Internal name args) = eaches args _ _ (λ xs. closed.binds (closed.pays 4) (λ _. opens.internal name xs))
+      call_layer (TypedCall-F.External target name args) = closed.binds target.1 (λ to. eaches args _ _ (λ xs. closed.binds (closed.pays EXTERNAL_CALL) (λ _. opens.external to name xs)))
+      call_layer (TypedCall-F.Internal name args) = eaches args _ _ (λ xs. closed.binds (closed.pays INTERNAL_CALL) (λ _. opens.internal name xs))
 
     expr_roll : (store : Store) (frame : Frame) (locals : List ℕ) (e : TypedExpr-F TypedCall TypedExpr) → value_of store frame locals (roll-TypedExpr e) ≡ expr_step store frame locals (map-TypedExpr _ _ _ _ (answer_of store frame locals) (value_of store frame locals) e)
     unfolding value_of answer_of
@@ -152,7 +154,7 @@ module _ (A B : Store) (here i j : ℕ) (R : (T : Type 0) → Part T → Part T 
 
     assign_alike : (to : Assignee) (v : ℕ) (locals : List ℕ) → Alike (assign A f to v locals) (assign B g to v locals)
     assign_alike (assignee.Local n) v locals = closed.pures _
-    assign_alike (assignee.Plain field) v locals = closed.binds (closed.pays 4) (λ _. closed.binds (closed.writes field 0 v) (λ _. closed.pures (Continues locals)))
+    assign_alike (assignee.Plain field) v locals = closed.binds (closed.pays WRITE) (λ _. closed.binds (closed.writes field 0 v) (λ _. closed.pures (Continues locals)))
 
     chosen_alike : (arms : List (TypedExpr × ((b : TypedBlock) × BlockAlike b))) (last other : Option Action) → ((locals : List ℕ) → Alike (branch A f [] last locals) (branch B g [] other locals)) → (locals : List ℕ) → Alike
         (branch A f (map (λ (arm : TypedExpr × TypedBlock). (arm.0, block_of A f arm.1)) (map (λ (arm : TypedExpr × ((b : TypedBlock) × BlockAlike b)). (arm.0, arm.1.0)) arms)) last locals)
@@ -168,16 +170,16 @@ module _ (A B : Store) (here i j : ℕ) (R : (T : Type 0) → Part T → Part T 
     StmtParts = TypedStmt-F ((t : TypedStmt) × DoesAlike t) ((b : TypedBlock) × BlockAlike b)
 
     stmt_layer : (y : StmtParts) (locals : List ℕ) → Alike (stmt_step A f (map-TypedStmt _ _ _ _ (stmt_of A f) (block_of A f) (map-TypedStmt _ _ _ _ (λ t. t.0) (λ b. b.0) y)) locals) (stmt_step B g (map-TypedStmt _ _ _ _ (stmt_of B g) (block_of B g) (map-TypedStmt _ _ _ _ (λ t. t.0) (λ b. b.0) y)) locals)
-    stmt_layer (TypedStmt-F.Let n ty e) locals = closed.binds (closed.pays 1) (λ _. closed.binds (value_alike locals e) (λ v. closed.pures _))
-    stmt_layer (TypedStmt-F.Try n target name args) locals = closed.binds (closed.pays 1) (λ _. closed.binds (value_alike locals target) (λ to. closed.binds (args_alike locals args _ _ (λ xs. closed.binds (closed.pays 11) (λ _. opens.attempt to name xs))) (λ v. closed.pures _)))
-    stmt_layer (TypedStmt-F.Set to e) locals = closed.binds (closed.pays 1) (λ _. closed.binds (value_alike locals e) (λ v. assign_alike to v locals))
-    stmt_layer (TypedStmt-F.SetAt field key e) locals = closed.binds (closed.pays 1) (λ _. closed.binds (value_alike locals key) (λ k. closed.binds (value_alike locals e) (λ v. closed.binds (closed.pays 4) (λ _. closed.binds (closed.writes field k v) (λ _. closed.pures (Continues locals))))))
-    stmt_layer (TypedStmt-F.If arms None) locals = closed.binds (closed.pays 1) (λ _. chosen_alike arms None None (λ after. closed.pures (Continues after)) locals)
-    stmt_layer (TypedStmt-F.If arms (Some last)) locals = closed.binds (closed.pays 1) (λ _. chosen_alike arms (Some (block_of A f last.0)) (Some (block_of B g last.0)) last.1 locals)
-    stmt_layer (TypedStmt-F.While cond body) locals = closed.binds (closed.pays 1) (λ _. closed.loops a b cond _ _ (λ after. value_alike after cond) body.1 locals)
-    stmt_layer (TypedStmt-F.Return e) locals = closed.binds (closed.pays 1) (λ _. closed.binds (value_alike locals e) (λ v. closed.pures (Returns v)))
-    stmt_layer (TypedStmt-F.Revert e) locals = closed.binds (closed.pays 1) (λ _. closed.binds (value_alike locals e) (λ v. closed.reverts (User v)))
-    stmt_layer (TypedStmt-F.Do call) locals = closed.binds (closed.pays 1) (λ _. closed.binds (answer_alike locals call) (λ _. closed.pures (Continues locals)))
+    stmt_layer (TypedStmt-F.Let n ty e) locals = closed.binds (closed.pays STATEMENT) (λ _. closed.binds (value_alike locals e) (λ v. closed.pures _))
+    stmt_layer (TypedStmt-F.Try n target name args) locals = closed.binds (closed.pays STATEMENT) (λ _. closed.binds (value_alike locals target) (λ to. closed.binds (args_alike locals args _ _ (λ xs. closed.binds (closed.pays EXTERNAL_CALL) (λ _. opens.attempt to name xs))) (λ v. closed.pures _)))
+    stmt_layer (TypedStmt-F.Set to e) locals = closed.binds (closed.pays STATEMENT) (λ _. closed.binds (value_alike locals e) (λ v. assign_alike to v locals))
+    stmt_layer (TypedStmt-F.SetAt field key e) locals = closed.binds (closed.pays STATEMENT) (λ _. closed.binds (value_alike locals key) (λ k. closed.binds (value_alike locals e) (λ v. closed.binds (closed.pays WRITE) (λ _. closed.binds (closed.writes field k v) (λ _. closed.pures (Continues locals))))))
+    stmt_layer (TypedStmt-F.If arms None) locals = closed.binds (closed.pays STATEMENT) (λ _. chosen_alike arms None None (λ after. closed.pures (Continues after)) locals)
+    stmt_layer (TypedStmt-F.If arms (Some last)) locals = closed.binds (closed.pays STATEMENT) (λ _. chosen_alike arms (Some (block_of A f last.0)) (Some (block_of B g last.0)) last.1 locals)
+    stmt_layer (TypedStmt-F.While cond body) locals = closed.binds (closed.pays STATEMENT) (λ _. closed.loops a b cond _ _ (λ after. value_alike after cond) body.1 locals)
+    stmt_layer (TypedStmt-F.Return e) locals = closed.binds (closed.pays STATEMENT) (λ _. closed.binds (value_alike locals e) (λ v. closed.pures (Returns v)))
+    stmt_layer (TypedStmt-F.Revert e) locals = closed.binds (closed.pays STATEMENT) (λ _. closed.binds (value_alike locals e) (λ v. closed.reverts (User v)))
+    stmt_layer (TypedStmt-F.Do call) locals = closed.binds (closed.pays STATEMENT) (λ _. closed.binds (answer_alike locals call) (λ _. closed.pures (Continues locals)))
 
     block_layer : (y : TypedBlock-F ((t : TypedStmt) × DoesAlike t) ((b : TypedBlock) × BlockAlike b)) (locals : List ℕ) → Alike (block_step A f (map-TypedBlock _ _ _ _ (stmt_of A f) (block_of A f) (map-TypedBlock _ _ _ _ (λ t. t.0) (λ b. b.0) y)) locals) (block_step B g (map-TypedBlock _ _ _ _ (stmt_of B g) (block_of B g) (map-TypedBlock _ _ _ _ (λ t. t.0) (λ b. b.0) y)) locals)
     block_layer y locals = turn_alike y.stmts locals

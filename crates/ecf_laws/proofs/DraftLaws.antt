@@ -11,12 +11,12 @@ use Rattle.ecf_lang.specs.Store.{Store, IsRising, IsStore, with_writes, read}
 use Rattle.ecf_lang.specs.Part.{Control, Done, Exit}
 use Rattle.ecf_lang.specs.Meaning.{run, result_of, kept_run, calls_of, initial_state}
 use Rattle.ecf_lang.specs.Draft.{AgreesWith}
-use Rattle.ecf_laws.specs.Parts.{led}
-use Rattle.ecf_laws.specs.Laws.{ReadsAreStored, ReadsDiffer, WritesRise, RunMakesStore, RunStands, SameReadsSameRun}
-use Rattle.ecf_laws.proofs.Parts as parts
-use Rattle.ecf_laws.proofs.Reading as reading
-use Rattle.ecf_laws.proofs.Stores.{writes_make_store}
-use Rattle.ecf_laws.proofs.Ends.{ends_with_writes}
+use Rattle.ecf_laws.specs.Parts.{end_state}
+use Rattle.ecf_laws.specs.Laws.{ReadsAreStored, ReadsDiffer, WritesRise, RunKeepsStore, RunStands, SameReadsSameRun}
+use Rattle.ecf_laws.proofs.PartLaws as parts
+use Rattle.ecf_laws.proofs.ReadLaws as reading
+use Rattle.ecf_stores.specs.StoreLaws.{writes_keep_store}
+use Rattle.ecf_laws.proofs.EndLaws.{ends_with_writes}
 
 begun : (A B : Store) (fuel : ℕ) → reading.Sound A B (initial_state fuel)
 unfolding IsStrictlySortedBy
@@ -29,11 +29,11 @@ begun A B fuel = record {
 goes : (typed : Typed) (A B : Store) (tx : Tx) → reading.Goes A B (initial_state tx.fuel) (calls_of typed A tx.calls (initial_state tx.fuel)) (calls_of typed B tx.calls (initial_state tx.fuel))
 goes typed A B tx = parts.calls_alike A B (reading.Same A B) (reading.closed A B) typed tx.calls (initial_state tx.fuel) (begun A B tx.fuel)
 
-reads_led : (store : Store) (limit : ℕ) (r : Control ℕ) → (result_of store limit r).reads ≡ (led r).reads
+reads_led : (store : Store) (limit : ℕ) (r : Control ℕ) → (result_of store limit r).reads ≡ (end_state r).reads
 reads_led store limit (Done value state) = refl
 reads_led store limit (Exit halt state) = refl
 
-writes_rise_of : (store : Store) (limit : ℕ) (r : Control ℕ) → IsRising (led r).written → IsRising (result_of store limit r).writes
+writes_rise_of : (store : Store) (limit : ℕ) (r : Control ℕ) → IsRising (end_state r).written → IsRising (result_of store limit r).writes
 unfolding IsStrictlySortedBy
 writes_rise_of store limit (Done value state) h = h
 writes_rise_of store limit (Exit halt state) h = tt
@@ -50,10 +50,10 @@ pub writes_rise : WritesRise
 unfolding run
 writes_rise typed store tx = writes_rise_of store tx.fuel (calls_of typed store tx.calls (initial_state tx.fuel)) (goes typed store store tx).sound.rising
 
-pub run_makes_store : RunMakesStore
-run_makes_store typed store tx h = subst IsStore (sym (ends_with_writes typed store tx)) (writes_make_store store (run typed store tx).writes h)
+pub run_keeps_store : RunKeepsStore
+run_keeps_store typed store tx h = subst IsStore (sym (ends_with_writes typed store tx)) (writes_keep_store store (run typed store tx).writes h)
 
--- a run that led to the same on another store
+-- a run that end_state to the same on another store
 pub record AlsoOn (A B : Store) (limit : ℕ) (r : Control ℕ) : Type 0 where
   pub outcome : (result_of B limit r).outcome ≡ (result_of A limit r).outcome
   pub fuel : (result_of B limit r).fuel ≡ (result_of A limit r).fuel

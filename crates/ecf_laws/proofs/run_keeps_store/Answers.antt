@@ -1,0 +1,5 @@
+use Rattle.ecf_laws.proofs.DraftLaws as proved
+use Rattle.ecf_laws.proofs.run_keeps_store.Goals as goal
+
+pub returns : goal.returns
+returns c = proved.run_keeps_store

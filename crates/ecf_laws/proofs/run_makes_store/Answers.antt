@@ -1,5 +1,0 @@
-use Rattle.ecf_laws.proofs.Stands as proved
-use Rattle.ecf_laws.proofs.run_makes_store.Goals as goal
-
-pub returns : goal.returns
-returns c = proved.run_makes_store
