@@ -1,8 +1,8 @@
 pub mod BuiltForms
+pub mod BuiltTasks
 pub mod CallSteps
 pub mod CellOrder
-pub mod StateSteps
-pub mod Steps
-pub mod Sizes
-pub mod Holds
+pub mod MachineSteps
 pub mod OneInvocation
+pub mod Sizes
+pub mod StateSteps

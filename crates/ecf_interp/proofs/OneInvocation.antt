@@ -5,10 +5,12 @@ use Rattle.std.specs.List.{list_all}
 use Rattle.std.proofs.lemmas.Bool.{false≢true}
 use Rattle.std.proofs.lemmas.List.Elements.{All-push}
 use Rattle.ecf_lang.specs.declared.cell.Cell.{Cell}
+use Rattle.ecf_lang.specs.declared.limits.TheConstants.{MAX_FRAMES}
 use Rattle.ecf_lang.specs.declared.run.Cause.{Cause}
 use Rattle.ecf_lang.specs.declared.run.Cause.TheVariants.{User}
 use Rattle.ecf_lang.specs.declared.run.Step.{Step}
 use Rattle.ecf_lang.specs.declared.run.Invocation.{Invocation}
+use Rattle.ecf_lang.specs.declared.costs.TheConstants.{STATEMENT, LEAF, READ, WRITE, OPERATOR}
 use Rattle.ecf_lang.specs.declared.tree.Op.{Op}
 use Rattle.ecf_lang.specs.declared.typed.Place.{Place}
 use Rattle.ecf_lang.specs.declared.typed.Place.TheVariants as place
@@ -32,12 +34,12 @@ use Rattle.ecf_interp.specs.Load.{size_of, parts_size}
 use Rattle.ecf_interp.specs.OneInvocation.{StepsAreOfTheFirst}
 use Rattle.ecf_interp.proofs.BuiltForms.{built_name, built_parts, expr_roll}
 use Rattle.ecf_interp.proofs.Sizes.{size_sum}
-use Rattle.ecf_interp.proofs.CallSteps.{method_built}
+use Rattle.ecf_interp.proofs.CallSteps.{ways_within, method_built}
 
 -- the state that a part of a run leads to
-abbrev pub reached_state : {A : Type 0} → Control A → State
-reached_state (Done value s) = s
-reached_state (Exit halt s) = s
+abbrev pub state_of : {A : Type 0} → Control A → State
+state_of (Done value s) = s
+state_of (Exit halt s) = s
 
 -- steps that are all of this invocation
 abbrev pub AreOf : ℕ → State → Type 0
@@ -45,11 +47,11 @@ AreOf inv s = All (λ step. step.inv ≡ inv) s.steps
 
 -- a part of a run that makes no steps but in this invocation
 pub record Stays {A : Type 0} (inv : ℕ) (part : Part A) : Type 0 where
-  pub kept : (s : State) → AreOf inv s → AreOf inv (reached_state (part s))
+  pub kept : (s : State) → AreOf inv s → AreOf inv (state_of (part s))
 
 module _ (inv : ℕ) where
   stays_is : {A : Type 0} (f g : Part A) → ((s : State) → f s ≡ g s) → Stays inv g → Stays inv f
-  stays_is f g same stays = record { kept = λ s h. subst (λ r. AreOf inv (reached_state r)) (sym (same s)) (stays.kept s h) }
+  stays_is f g same stays = record { kept = λ s h. subst (λ r. AreOf inv (state_of r)) (sym (same s)) (stays.kept s h) }
 
   stays_pure : {A : Type 0} (x : A) → Stays inv (pure x)
   stays_pure x = record { kept = λ s h. h }
@@ -60,7 +62,7 @@ module _ (inv : ℕ) where
   pub stays_then : {A B : Type 0} (part : Part A) (next : A → Part B) → Stays inv part → ((x : A) → Stays inv (next x)) → Stays inv (part >>= next)
   stays_then part next first further = record { kept = λ s h. goes_on (part s) (first.kept s h) }
     where
-      goes_on : (r : Control _) → AreOf inv (reached_state r) → AreOf inv (reached_state (after r next))
+      goes_on : (r : Control _) → AreOf inv (state_of r) → AreOf inv (state_of (after r next))
       goes_on (Done x s) h = (further x).kept s h
       goes_on (Exit halt s) h = h
 
@@ -68,7 +70,7 @@ module _ (inv : ℕ) where
   unfolding pay
   stays_pay n = record { kept = λ s h. by_test s h (nat_le n s.fuel) }
     where
-      by_test : (s : State) → AreOf inv s → (b : Bool) → AreOf inv (reached_state (if b then Done (tt {0}) (record s { fuel = s.fuel - n; invocations = with_change (with_charge n) s.invocations inv }) else Exit RunsOut (record s { fuel = 0 })))
+      by_test : (s : State) → AreOf inv s → (b : Bool) → AreOf inv (state_of (if b then Done (tt {0}) (record s { fuel = s.fuel - n; invocations = with_change (with_charge n) s.invocations inv }) else Exit RunsOut (record s { fuel = 0 })))
       by_test s h true = h
       by_test s h false = h
 
@@ -105,7 +107,7 @@ module _ (store : Store) (frame : Frame) where
         let both = three (is_add part.0) (is_built_expr part.1) (list_all is_built_part rest) built in
         let others = parts_stay n smaller rest (omega arith) both.1 in
         stays_then frame.inv (value part.1) _ (smaller part.1 (omega arith) both.0) (λ y.
-        stays_paid 1 _ (stays_then frame.inv (or_revert (op_value part.0 x y)) _ (stays_result frame.inv (op_value part.0 x y)) others))
+        stays_paid OPERATOR _ (stays_then frame.inv (or_revert (op_value part.0 x y)) _ (stays_result frame.inv (op_value part.0 x y)) others))
       where
         three : (a b c : Bool) → (a && b && c) ≡ true → (b ≡ true) × (c ≡ true)
         three true true c h = (refl, h)
@@ -113,7 +115,7 @@ module _ (store : Store) (frame : Frame) where
         three false b c h = absurd (false≢true h)
 
     name_stays : (place : Place) → is_plain place ≡ true → Stays frame.inv (name_value store frame locals place)
-    name_stays (place.Plain field) built = stays_paid 3 (fetch store frame field 0) (stays_read frame.inv store (own_cell store frame field 0))
+    name_stays (place.Plain field) built = stays_paid READ (fetch store frame field 0) (stays_read frame.inv store (own_cell store frame field 0))
     name_stays _ built = absurd (false≢true built)
 
     -- an expression, where smaller ones stay
@@ -125,14 +127,14 @@ module _ (store : Store) (frame : Frame) where
 
         layers : (l : TypedExpr-F TypedCall TypedExpr) → e ≡ roll-TypedExpr l → Stays frame.inv (value e)
         layers (TypedExpr-F.Number v) is =
-            at (expr.Number v) (is ∙ expr.rolls-Number v) (stays_is frame.inv _ _ (value_number store frame locals v) (stays_paid 1 (pure v) (stays_pure frame.inv v)))
+            at (expr.Number v) (is ∙ expr.rolls-Number v) (stays_is frame.inv _ _ (value_number store frame locals v) (stays_paid LEAF (pure v) (stays_pure frame.inv v)))
         layers (TypedExpr-F.Name place) is =
             let e_is = is ∙ expr.rolls-Name place in
             at (expr.Name place) e_is (stays_is frame.inv _ _ (value_name store frame locals place) (name_stays place (sym (built_name place) ∙ ap is_built_expr (sym e_is) ∙ built)))
         layers (TypedExpr-F.Sum first rest) is =
             let e_is = is ∙ expr.rolls-Sum first rest in
             let parts = built_parts e first rest e_is built in
-            let sized : size_of e ≡ size_of first + parts_size rest + 2 = ap size_of e_is ∙ size_sum first rest in
+            let size_is : size_of e ≡ size_of first + parts_size rest + 2 = ap size_of e_is ∙ size_sum first rest in
             at (expr.Sum first rest) e_is (stays_is frame.inv _ _ (value_sum store frame locals first rest)
             (stays_then frame.inv (value first) _ (smaller first (omega arith) parts.0) (parts_stay n smaller rest (omega arith) parts.1)))
         layers l is = absurd (false≢true (sym (ap is_built_expr is ∙ expr_roll l) ∙ built))
@@ -146,8 +148,8 @@ module _ (store : Store) (frame : Frame) where
 
     set_stays : (to : Assignee) (e : TypedExpr) → is_field to && is_built_expr e ≡ true → Stays frame.inv (stmt_of store frame (stmt.Set to e) locals)
     set_stays (assignee.Plain field) e built =
-        stays_is frame.inv _ _ (stmt_set store frame (assignee.Plain field) e locals) (stays_paid 1 _ (stays_then frame.inv (value e) _ (value_stays e built) (λ v.
-        stays_paid 4 _ (stays_then frame.inv (write_cell frame.inv (own_cell store frame field 0) v) _ (stays_write frame.inv (own_cell store frame field 0) v) (λ _. stays_pure frame.inv (Continues locals))))))
+        stays_is frame.inv _ _ (stmt_set store frame (assignee.Plain field) e locals) (stays_paid STATEMENT _ (stays_then frame.inv (value e) _ (value_stays e built) (λ v.
+        stays_paid WRITE _ (stays_then frame.inv (write_cell frame.inv (own_cell store frame field 0) v) _ (stays_write frame.inv (own_cell store frame field 0) v) (λ _. stays_pure frame.inv (Continues locals))))))
     set_stays (assignee.Local n) e built = absurd (false≢true built)
 
     stmt_stays : (t : TypedStmt) → is_built_stmt (out-TypedStmt t) ≡ true → Stays frame.inv (stmt_of store frame t locals)
@@ -160,10 +162,10 @@ module _ (store : Store) (frame : Frame) where
         layers (TypedStmt-F.Set to e) is built = at (stmt.Set to e) (is ∙ stmt.rolls-Set to e) (set_stays to e built)
         layers (TypedStmt-F.Return e) is built =
             at (stmt.Return e) (is ∙ stmt.rolls-Return e) (stays_is frame.inv _ _ (stmt_return store frame e locals)
-            (stays_paid 1 _ (stays_then frame.inv (value e) _ (value_stays e built) (λ v. stays_pure frame.inv (Returns v)))))
+            (stays_paid STATEMENT _ (stays_then frame.inv (value e) _ (value_stays e built) (λ v. stays_pure frame.inv (Returns v)))))
         layers (TypedStmt-F.Revert e) is built =
             at (stmt.Revert e) (is ∙ stmt.rolls-Revert e) (stays_is frame.inv _ _ (stmt_revert store frame e locals)
-            (stays_paid 1 _ (stays_then frame.inv (value e) _ (value_stays e built) (λ v. stays_revert frame.inv (User v)))))
+            (stays_paid STATEMENT _ (stays_then frame.inv (value e) _ (value_stays e built) (λ v. stays_revert frame.inv (User v)))))
         layers l is built = absurd (false≢true built)
 
   -- statements one after the other
@@ -189,19 +191,19 @@ no_steps inv [] is = λ k d within. absurd (omega arith)
 no_steps inv (step ∷ steps) is = cc
 
 -- the first call of a transaction
-first_call : (typed : Typed) (store : Store) (to name : ℕ) (args : List ℕ) (fuel : ℕ) → IsBuilt typed → AreOf 0 (reached_state ((ways typed store 64).anew to name args (initial_state fuel)))
+first_call : (typed : Typed) (store : Store) (to name : ℕ) (args : List ℕ) (fuel : ℕ) → IsBuilt typed → AreOf 0 (state_of ((ways typed store MAX_FRAMES).anew to name args (initial_state fuel)))
 first_call typed store to name args fuel built =
-    subst (λ r. AreOf 0 (reached_state r)) (sym (anew_is typed store 63 to name args (initial_state fuel))) (by_method (method_at typed to name) refl)
+    subst (λ r. AreOf 0 (state_of r)) (sym (anew_is typed store (MAX_FRAMES - 1) to name args (initial_state fuel))) (by_method (method_at typed to name) refl)
   where
-    by_method : (found : Option TypedMethod) → method_at typed to name ≡ found → AreOf 0 (reached_state (invoke typed store (ways typed store 63) to found name args (initial_state fuel)))
+    by_method : (found : Option TypedMethod) → method_at typed to name ≡ found → AreOf 0 (state_of (invoke typed store (ways_within typed store) to found name args (initial_state fuel)))
     by_method None is = no_steps 0 [] refl
     by_method (Some method) is =
-        (stays_then 0 (body_of store (frame_of typed store (ways typed store 63) to 0) (Some method) args) _
-        (body_stays store (frame_of typed store (ways typed store 63) to 0) method args (method_built typed to name method built is))
-        (λ v. stays_then 0 (note (with_answer v) 0) _ (stays_note 0 (with_answer v) 0) (λ _. stays_pure 0 v))).kept (reached_state (begin to name args (initial_state fuel))) (no_steps 0 [] refl)
+        (stays_then 0 (body_of store (frame_of typed store (ways_within typed store) to 0) (Some method) args) _
+        (body_stays store (frame_of typed store (ways_within typed store) to 0) method args (method_built typed to name method built is))
+        (λ v. stays_then 0 (note (with_answer v) 0) _ (stays_note 0 (with_answer v) 0) (λ _. stays_pure 0 v))).kept (state_of (begin to name args (initial_state fuel))) (no_steps 0 [] refl)
 
 -- a run's steps are those of where its calls led
-ran_steps : (store : Store) (limit : ℕ) (r : Control ℕ) → (result_of store limit r).steps ≡ (reached_state r).steps
+ran_steps : (store : Store) (limit : ℕ) (r : Control ℕ) → (result_of store limit r).steps ≡ (state_of r).steps
 ran_steps store limit (Done value s) = refl
 ran_steps store limit (Exit halt s) = refl
 
@@ -209,4 +211,4 @@ pub steps_are_of_the_first : StepsAreOfTheFirst
 unfolding run
 steps_are_of_the_first typed store tx call built one =
     subst (All (λ step. step.inv ≡ 0)) (sym (ran_steps store tx.fuel (calls_of typed store tx.calls (initial_state tx.fuel))))
-    (subst (λ calls. AreOf 0 (reached_state (calls_of typed store calls (initial_state tx.fuel)))) (sym one) (first_call typed store call.object call.method call.args tx.fuel built))
+    (subst (λ calls. AreOf 0 (state_of (calls_of typed store calls (initial_state tx.fuel)))) (sym one) (first_call typed store call.object call.method call.args tx.fuel built))

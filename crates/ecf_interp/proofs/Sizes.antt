@@ -10,14 +10,14 @@ use Rattle.ecf_lang.specs.declared.typed.TypedExpr.TheVariants as expr
 use Rattle.ecf_lang.specs.declared.typed.TypedCall.{TypedCall, fold-TypedCall}
 use Rattle.ecf_lang.specs.declared.typed.TypedStmt.{out-TypedStmt, out-roll-TypedStmt}
 use Rattle.ecf_lang.specs.declared.typed.TypedStmt.TheVariants as stmt
-use Rattle.ecf_interp.specs.Load.{sized, size_of, size_step, parts_size, stmt_size, load}
+use Rattle.ecf_interp.specs.Load.{total_size, size_of, size_step, parts_size, stmt_size, load}
 use Rattle.ecf_interp.specs.declared.machine.Task.{Task}
 use Rattle.ecf_interp.specs.declared.machine.Task.TheVariants as task
 
 -- the sizes of mapped elements
-sized-map : {A B : Type 0} (h : B → ℕ) (f : A → B) (xs : List A) → sized h (map f xs) ≡ sized (λ x. h (f x)) xs
-sized-map h f [] = refl
-sized-map h f (x ∷ xs) = ap (λ n. h (f x) + n) (sized-map h f xs)
+total_size-map : {A B : Type 0} (h : B → ℕ) (f : A → B) (xs : List A) → total_size h (map f xs) ≡ total_size (λ x. h (f x)) xs
+total_size-map h f [] = refl
+total_size-map h f (x ∷ xs) = ap (λ n. h (f x) + n) (total_size-map h f xs)
 
 size_roll : (e : TypedExpr-F TypedCall TypedExpr) → size_of (roll-TypedExpr e) ≡ size_step (map-TypedExpr _ _ _ _ (fold-TypedCall ℕ ℕ (λ _. 0) size_step) size_of e)
 unfolding size_of
@@ -32,7 +32,7 @@ size_name place = ap size_of (sym (expr.rolls-Name place)) ∙ size_roll _
 pub size_sum : (first : TypedExpr) (rest : List (Op × TypedExpr)) → size_of (expr.Sum first rest) ≡ size_of first + parts_size rest + 2
 size_sum first rest =
     ap size_of (sym (expr.rolls-Sum first rest)) ∙ size_roll _ ∙
-    ap (λ n. size_of first + n + 2) (sized-map (λ part. part.1 + 3) (λ p. (p.0, size_of p.1)) rest)
+    ap (λ n. size_of first + n + 2) (total_size-map (λ part. part.1 + 3) (λ p. (p.0, size_of p.1)) rest)
 
 pub size_set : (to : Assignee) (e : TypedExpr) → stmt_size (out-TypedStmt (stmt.Set to e)) ≡ size_of e + 2
 size_set to e = ap (λ t. stmt_size (out-TypedStmt t)) (sym (stmt.rolls-Set to e)) ∙ ap stmt_size (out-roll-TypedStmt _)

@@ -8,7 +8,7 @@ use Rattle.ecf_lang.specs.declared.cell.Cell.{Cell}
 use Rattle.ecf_lang.specs.declared.run.Invocation.{Invocation}
 use Rattle.ecf_lang.specs.Store.{Store, find_cell, read, set}
 use Rattle.ecf_lang.specs.Part.{State, Exit, Done, RunsOut, pay, read_cell, write_cell, with_change, with_charge}
-use Rattle.ecf_interp.specs.Charges.{Bounded}
+use Rattle.ecf_interp.specs.Charges.{ChargesFit}
 
 -- a charge that exceeds what is left
 pub pay_short : (inv n : ℕ) (s : State) → s.fuel < n → pay inv n s ≡ Exit RunsOut (record s { fuel = 0 })
@@ -21,10 +21,10 @@ unfolding pay
 pay_enough inv n s enough = let e : nat_le n s.fuel ≡ true = grind (arith, nat_tests) in rw e refl
 
 -- a charge keeps the bound
-pub Bounded_pay : (fuel n inv : ℕ) (is : List Invocation) → n ≤ fuel → Bounded fuel is → Bounded (fuel - n) (with_change (with_charge n) is inv)
-Bounded_pay fuel n inv is enough bounded = by_cases (slice_get_cases is inv).1
+pub ChargesFit-pay : (fuel n inv : ℕ) (is : List Invocation) → n ≤ fuel → ChargesFit fuel is → ChargesFit (fuel - n) (with_change (with_charge n) is inv)
+ChargesFit-pay fuel n inv is enough bounded = by_cases (slice_get_cases is inv).1
   where
-    by_cases : ((one : Invocation) × (inv < length is) × (slice_get is inv ≡ Some one) × (get_or is inv one ≡ one)) ⊎ ((length is ≤ inv) × (slice_get is inv ≡ None)) → Bounded (fuel - n) (with_change (with_charge n) is inv)
+    by_cases : ((one : Invocation) × (inv < length is) × (slice_get is inv ≡ Some one) × (get_or is inv one ≡ one)) ⊎ ((length is ≤ inv) × (slice_get is inv ≡ None)) → ChargesFit (fuel - n) (with_change (with_charge n) is inv)
     by_cases (inr none) = rw none.1 (λ k d within. omega (arith, bounded k d within))
     by_cases (inl some) =
         let one = some.0 in

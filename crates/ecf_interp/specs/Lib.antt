@@ -1,4 +1,5 @@
 pub mod Built
+pub mod BuiltForms
 pub mod BuiltTasks
 pub mod Charges
 pub mod Load

@@ -11,13 +11,13 @@ use Rattle.ecf_interp.specs.declared.machine.Doing.TheVariants.{Body, Eval, Give
 use Rattle.ecf_interp.specs.declared.machine.Machine.{Machine}
 
 -- the sum of the sizes of a list's elements
-abbrev pub sized : {A : Type 0} → (A → ℕ) → List A → ℕ
-sized size [] = 0
-sized size (x ∷ xs) = size x + sized size xs
+abbrev pub total_size : {A : Type 0} → (A → ℕ) → List A → ℕ
+total_size size [] = 0
+total_size size (x ∷ xs) = size x + total_size size xs
 
 -- the steps of an expression, from those of its parts
 abbrev pub size_step : TypedExpr-F ℕ ℕ → ℕ
-size_step (TypedExpr-F.Sum first rest) = first + sized (λ part. part.1 + 3) rest + 2
+size_step (TypedExpr-F.Sum first rest) = first + total_size (λ part. part.1 + 3) rest + 2
 size_step _ = 2
 
 -- more than the steps of an expression
@@ -26,7 +26,7 @@ size_of = fold-TypedExpr ℕ ℕ (λ _. 0) size_step
 
 -- more than the steps of the further parts of a sum
 abbrev pub parts_size : List (Op × TypedExpr) → ℕ
-parts_size parts = sized (λ part. size_of part.1 + 3) parts
+parts_size parts = total_size (λ part. size_of part.1 + 3) parts
 
 -- more than the steps of a statement
 abbrev pub stmt_size : TypedStmt-F TypedStmt TypedBlock → ℕ
@@ -37,7 +37,7 @@ stmt_size _ = 0
 
 -- more than the steps of statements
 abbrev pub stmts_size : List TypedStmt → ℕ
-stmts_size stmts = sized (λ stmt. stmt_size (out-TypedStmt stmt)) stmts + 2
+stmts_size stmts = total_size (λ stmt. stmt_size (out-TypedStmt stmt)) stmts + 2
 
 -- what a task may take once it has its value
 abbrev pub task_size : Task → ℕ
@@ -48,7 +48,7 @@ task_size _ = 1
 
 -- what the tasks may still take
 abbrev pub load : List Task → ℕ
-load tasks = sized task_size tasks
+load tasks = total_size task_size tasks
 
 module _ {R : Type 0} (machine : Machine R) where
   -- from statements on

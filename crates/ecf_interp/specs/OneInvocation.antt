@@ -10,4 +10,5 @@ use Rattle.ecf_interp.specs.Built.{IsBuilt}
 -- on any store, each step of one call of a built contract is of invocation 0
 abbrev pub StepsAreOfTheFirst : Type 0
 StepsAreOfTheFirst =
-    (typed : Typed) (store : Store) (tx : Tx) (call : TxCall) → IsBuilt typed → tx.calls ≡ call ∷ [] → All (λ step. step.inv ≡ 0) (run typed store tx).steps
+    (typed : Typed) (store : Store) (tx : Tx) (call : TxCall) →
+    IsBuilt typed → tx.calls ≡ call ∷ [] → All (λ step. step.inv ≡ 0) (run typed store tx).steps

@@ -5,16 +5,16 @@ use Rattle.ecf_lang.specs.declared.run.Outcome.TheVariants.{Answer, Reverted, Ou
 use Rattle.ecf_lang.specs.Part.{State, Reverts, RunsOut, Control, Done, Exit, Part, ◌>>◌, pure, note, with_answer}
 
 -- a charge that was paid, or wasn't
-abbrev pub paid : Bool → State → Control Unit
-paid true state = Done tt state
-paid false state = Exit RunsOut state
+abbrev pub payment : Bool → State → Control Unit
+payment true state = Done tt state
+payment false state = Exit RunsOut state
 
 -- an outcome, with what the run had then
-abbrev pub reached : Outcome → State → Control ℕ
-reached (Answer value) state = Done value state
-reached (Reverted cause) state = Exit (Reverts cause) state
-reached OutOfFuel state = Exit RunsOut state
+abbrev pub outcome_at : Outcome → State → Control ℕ
+outcome_at (Answer value) state = Done value state
+outcome_at (Reverted cause) state = Exit (Reverts cause) state
+outcome_at OutOfFuel state = Exit RunsOut state
 
 -- a method's answer, which its invocation notes
-abbrev pub closing : ℕ → ℕ → Part ℕ
-closing inv value = note (with_answer value) inv >> pure value
+abbrev pub note_answer : ℕ → ℕ → Part ℕ
+note_answer inv value = note (with_answer value) inv >> pure value

@@ -1,5 +1,6 @@
 -- What the machine has still to give.
 use Rattle.std.specs.Prelude.{◌≡◌, ℕ, List, [], ◌∷◌, map}
+use Rattle.ecf_lang.specs.declared.costs.TheConstants.{STATEMENT, OPERATOR}
 use Rattle.ecf_lang.specs.declared.tree.Op.{Op}
 use Rattle.ecf_lang.specs.declared.tree.Op.TheVariants as op
 use Rattle.ecf_lang.specs.declared.run.Cause.TheVariants.{User}
@@ -14,12 +15,12 @@ use Rattle.ecf_interp.specs.declared.machine.Task.TheVariants as task
 use Rattle.ecf_interp.specs.declared.machine.Doing.{Doing}
 use Rattle.ecf_interp.specs.declared.machine.Doing.TheVariants.{Body, Eval, Give, Over}
 use Rattle.ecf_interp.specs.declared.machine.Machine.{Machine}
-use Rattle.ecf_interp.specs.Reach.{reached}
+use Rattle.ecf_interp.specs.Reach.{outcome_at}
 
 -- on from a statement to what waits for its end, unless the method is over
-abbrev pub settled : (List ℕ → ℕ → Part ℕ) → Flow → Part ℕ
-settled next (Continues locals) = next locals 0
-settled next (Returns answer) = pure answer
+abbrev pub continuation : (List ℕ → ℕ → Part ℕ) → Flow → Part ℕ
+continuation next (Continues locals) = next locals 0
+continuation next (Returns answer) = pure answer
 
 module _ (store : Store) (frame : Frame) where
   -- the further parts of a sum, each with its operator
@@ -32,30 +33,30 @@ module _ (store : Store) (frame : Frame) where
 
   -- on with these statements, and then with what waits for their end
   abbrev pub then_stmts : List TypedStmt → (List ℕ → ℕ → Part ℕ) → List ℕ → ℕ → Part ℕ
-  then_stmts stmts next locals value = stmts_of stmts locals >>= settled next
+  then_stmts stmts next locals value = stmts_of stmts locals >>= continuation next
 
   -- a `+` of a sum so far and a part, with its charge, and the parts after it
-  abbrev pub added : ℕ → ℕ → List ℕ → List (Op × TypedExpr) → Part ℕ
-  added total value locals rest =
-      charge store frame 1 >> (or_revert (op_value op.Add total value) >>= (λ sum. chain store frame sum (parts_of locals rest)))
+  abbrev pub addition : ℕ → ℕ → List ℕ → List (Op × TypedExpr) → Part ℕ
+  addition total value locals rest =
+      charge store frame OPERATOR >> (or_revert (op_value op.Add total value) >>= (λ sum. chain store frame sum (parts_of locals rest)))
 
   -- an assignment to a plain field, from its value on
-  abbrev pub assigned : ℕ → ℕ → List ℕ → Part Flow
-  assigned field value = assign store frame (assignee.Plain field) value
+  abbrev pub assignment : ℕ → ℕ → List ℕ → Part Flow
+  assignment field value = assign store frame (assignee.Plain field) value
 
   -- what a task makes of a value, before what waits for its own
-  abbrev pub onward : Task → (List ℕ → ℕ → Part ℕ) → List ℕ → ℕ → Part ℕ
-  onward (task.Sum rest) next locals value = chain store frame value (parts_of locals rest.now) >>= next locals
-  onward (task.Add total rest) next locals value = added total value locals rest.now >>= next locals
-  onward (task.Assign field) next locals value = assigned field value locals >>= settled next
-  onward task.Return next locals value = pure value
-  onward task.Revert next locals value = revert (User value)
-  onward (task.Next stmts) next locals value = then_stmts stmts.now next locals value
+  abbrev pub resume : Task → (List ℕ → ℕ → Part ℕ) → List ℕ → ℕ → Part ℕ
+  resume (task.Sum rest) next locals value = chain store frame value (parts_of locals rest.now) >>= next locals
+  resume (task.Add total rest) next locals value = addition total value locals rest.now >>= next locals
+  resume (task.Assign field) next locals value = assignment field value locals >>= continuation next
+  resume task.Return next locals value = pure value
+  resume task.Revert next locals value = revert (User value)
+  resume (task.Next stmts) next locals value = then_stmts stmts.now next locals value
 
   -- the method's answer, from what the tasks make of a value
   abbrev pub plug : List Task → List ℕ → ℕ → Part ℕ
   plug [] locals value = pure value
-  plug (waits ∷ tasks) locals value = onward waits (plug tasks) locals value
+  plug (waits ∷ tasks) locals value = resume waits (plug tasks) locals value
 
 module _ {R : Type 0} (store_of : R → Store) (machine : Machine R) where
   -- the store that the machine reads
@@ -76,12 +77,13 @@ module _ {R : Type 0} (store_of : R → Store) (machine : Machine R) where
 
   -- the answer, from statements
   abbrev pub means_body : List TypedStmt → Opens → List ℕ → Control ℕ
-  means_body stmts opens locals = (stmts_of store_in (frame_in opens) stmts locals >>= settled (plug_in opens)) machine.state
+  means_body stmts opens locals = (stmts_of store_in (frame_in opens) stmts locals >>= continuation (plug_in opens)) machine.state
 
   -- the answer, where a charge and a value for this task come before these statements
   abbrev pub means_wait : Task → TypedExpr → List TypedStmt → Opens → List ℕ → Control ℕ
   means_wait waits expr rest opens locals =
-      (charge store_in (frame_in opens) 1 >> (value_in opens locals expr >>= onward store_in (frame_in opens) waits (then_stmts store_in (frame_in opens) rest (plug_in opens)) locals)) machine.state
+      let next = then_stmts store_in (frame_in opens) rest (plug_in opens) in
+      (charge store_in (frame_in opens) STATEMENT >> (value_in opens locals expr >>= resume store_in (frame_in opens) waits next locals)) machine.state
 
   -- the answer, from an expression
   abbrev pub means_eval : TypedExpr → Opens → List ℕ → Control ℕ
@@ -94,15 +96,15 @@ module _ {R : Type 0} (store_of : R → Store) (machine : Machine R) where
 
   -- the answer, from both sides of a `+`
   abbrev pub means_add : ℕ → ℕ → List (Op × TypedExpr) → Opens → List ℕ → Control ℕ
-  means_add total value rest opens locals = (added store_in (frame_in opens) total value locals rest >>= plug_in opens locals) machine.state
+  means_add total value rest opens locals = (addition store_in (frame_in opens) total value locals rest >>= plug_in opens locals) machine.state
 
   -- the answer, from the value that a plain field takes
   abbrev pub means_assign : ℕ → ℕ → Opens → List ℕ → Control ℕ
-  means_assign field value opens locals = (assigned store_in (frame_in opens) field value locals >>= settled (plug_in opens)) machine.state
+  means_assign field value opens locals = (assignment store_in (frame_in opens) field value locals >>= continuation (plug_in opens)) machine.state
 
   -- the answer, from a value for this task
   abbrev pub means_task : Task → ℕ → Opens → List ℕ → Control ℕ
-  means_task waits value opens locals = onward store_in (frame_in opens) waits (plug_in opens) locals value machine.state
+  means_task waits value opens locals = resume store_in (frame_in opens) waits (plug_in opens) locals value machine.state
 
   -- the answer, from a value
   abbrev pub means_give : ℕ → Opens → List ℕ → Control ℕ
@@ -113,7 +115,7 @@ module _ {R : Type 0} (store_of : R → Store) (machine : Machine R) where
   means (Body stmts) = means_body stmts.now
   means (Eval expr) = means_eval expr.now
   means (Give value) = means_give value
-  means (Over outcome) = λ opens locals. reached outcome machine.state
+  means (Over outcome) = λ opens locals. outcome_at outcome machine.state
 
 -- both are the same, however frames are opened and whatever the locals are
 abbrev pub Keeps : (Opens → List ℕ → Control ℕ) → (Opens → List ℕ → Control ℕ) → Type 0

@@ -1,14 +1,16 @@
 //! A transaction's calls, each in an invocation of its own.
 
 ghost use Rattle.std.specs.Prelude.{◌≡◌, IfOk};
+ghost use Rattle.ecf_lang.specs.declared.limits.TheConstants.{MAX_FRAMES};
 ghost use Rattle.ecf_lang.specs.Meaning.{ways, calls_of};
 ghost use Rattle.ecf_interp.specs.Built.{IsBuilt};
-ghost use Rattle.ecf_interp.specs.Reach.{reached};
+ghost use Rattle.ecf_interp.specs.Reach.{outcome_at};
 
 use crate::machine::{Frame, Machine};
 use crate::stack::Stack;
 use crate::state::RunState;
 use ecf_lang::cell::CellRead;
+use ecf_lang::limits::MAX_INVOCATIONS;
 use ecf_lang::run::{Cause, Outcome};
 use ecf_lang::tx::TxCall;
 use ecf_lang::typed::Typed;
@@ -24,7 +26,7 @@ pub(crate) fn run_calls<'a, R: CellRead>(
     mut state: RunState,
 ) -> Result<(Outcome, RunState), AllocError>
     requires { IsBuilt typed.now }
-    ensures { IfOk result (λ end. calls_of typed.now (R.store store.now) calls.now state ≡ reached end.0 end.1) }
+    ensures { IfOk result (λ end. calls_of typed.now (R.store store.now) calls.now state ≡ outcome_at end.0 end.1) }
 {
     let mut last = 0;
     for call in calls {
@@ -38,7 +40,7 @@ pub(crate) fn run_calls<'a, R: CellRead>(
     Ok((Outcome::Answer(last), state))
 }
 
-/// Opens an invocation for a call, where fewer than 1,024 were opened, and runs its method.
+/// Opens an invocation for a call, where one more may be opened, and runs its method.
 fn run_call<'a, R: CellRead>(
     alloc: Global,
     typed: &'a Typed,
@@ -47,9 +49,10 @@ fn run_call<'a, R: CellRead>(
     mut state: RunState,
 ) -> Result<(Outcome, RunState), AllocError>
     requires { IsBuilt typed.now }
-    ensures { IfOk result (λ end. (ways typed.now (R.store store.now) 64).anew call.now.object call.now.method call.now.args state ≡ reached end.0 end.1) }
+    ensures { IfOk result (λ end.
+        (ways typed.now (R.store store.now) MAX_FRAMES).anew call.now.object call.now.method call.now.args state ≡ outcome_at end.0 end.1) }
 {
-    if state.invocation_count() >= 1024 {
+    if state.invocation_count() >= MAX_INVOCATIONS {
         return Ok((Outcome::Reverted(Cause::Calls), state));
     }
     let Some(method) = typed.method(call.object, call.method) else {

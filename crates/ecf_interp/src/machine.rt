@@ -5,7 +5,7 @@ ghost use Rattle.std.specs.List.{list_all};
 ghost use Rattle.ecf_lang.specs.declared.typed.TypedExpr.TheVariants.{Number, Name};
 ghost use Rattle.ecf_lang.specs.declared.typed.TypedStmt.TheVariants.{Set};
 ghost use Rattle.ecf_lang.specs.declared.typed.Place.TheVariants as place;
-ghost use Rattle.ecf_interp.specs.Reach.{reached};
+ghost use Rattle.ecf_interp.specs.Reach.{outcome_at};
 ghost use Rattle.ecf_interp.specs.Resume.{Keeps, means, means_body, means_wait, means_eval, means_further, means_add, means_assign, means_task, means_give};
 ghost use Rattle.ecf_interp.specs.Load.{measure, load_body, load_wait, load_eval, load_further, load_task, load_give};
 ghost use Rattle.ecf_interp.specs.BuiltTasks.{IsBuiltTask, IsBuiltDoing, IsBuiltMachine};
@@ -14,6 +14,7 @@ ghost use Rattle.ecf_interp.specs.Built.{is_built_expr, is_built_part, is_field,
 use crate::stack::Stack;
 use crate::state::RunState;
 use ecf_lang::cell::{Cell, CellRead};
+use ecf_lang::costs::{LEAF, OPERATOR, READ, STATEMENT, WRITE};
 use ecf_lang::run::{Cause, Outcome};
 use ecf_lang::tree::Op;
 use ecf_lang::typed::{Assignee, Place, TypedExpr, TypedStmt};
@@ -69,7 +70,7 @@ impl<'a, R: CellRead> Machine<'a, R> {
     pub(crate) fn finish(&mut self, stmts: &'a [TypedStmt]) -> Result<Outcome, AllocError>
         requires stmts_built { All IsBuiltStmt stmts.now }
         requires tasks_built { IsBuiltMachine self.old }
-        ensures { IfOk result (λ outcome. Keeps (means_body R.store self.old stmts.now) (λ opens locals. reached outcome self.new.state)) }
+        ensures { IfOk result (λ outcome. Keeps (means_body R.store self.old stmts.now) (λ opens locals. outcome_at outcome self.new.state)) }
     {
         let mut doing = Doing::Body(stmts);
         loop {
@@ -150,7 +151,7 @@ impl<'a, R: CellRead> Machine<'a, R> {
         ensures tasks_built { OnOk result (IsBuiltMachine self.new) }
         ensures falls { IfOk result (λ d. measure self.new d < load_wait self.old task.entry value.now rest.now) }
     {
-        if !self.state.pay(self.frame.inv, 1) {
+        if !self.state.pay(self.frame.inv, STATEMENT) {
             return Ok(Doing::Over(Outcome::OutOfFuel));
         }
         self.frame.tasks.push(Task::Next(rest))?;
@@ -184,7 +185,7 @@ impl<'a, R: CellRead> Machine<'a, R> {
         ensures tasks_built { OnOk result (IsBuiltMachine self.new) }
         ensures falls { IfOk result (λ d. measure self.new d < load_eval self.old (Number value)) }
     {
-        if !self.state.pay(self.frame.inv, 1) {
+        if !self.state.pay(self.frame.inv, LEAF) {
             return Ok(Doing::Over(Outcome::OutOfFuel));
         }
         Ok(Doing::Give(value))
@@ -212,7 +213,7 @@ impl<'a, R: CellRead> Machine<'a, R> {
         ensures tasks_built { OnOk result (IsBuiltMachine self.new) }
         ensures falls { IfOk result (λ d. measure self.new d < load_eval self.old (Name (place.Plain field))) }
     {
-        if !self.state.pay(self.frame.inv, 3) {
+        if !self.state.pay(self.frame.inv, READ) {
             return Ok(Doing::Over(Outcome::OutOfFuel));
         }
         let cell = self.plain_cell(field);
@@ -298,7 +299,7 @@ impl<'a, R: CellRead> Machine<'a, R> {
         ensures tasks_built { OnOk result (IsBuiltMachine self.new) }
         ensures falls { IfOk result (λ d. measure self.new d < load_further self.old rest.now) }
     {
-        if !self.state.pay(self.frame.inv, 1) {
+        if !self.state.pay(self.frame.inv, OPERATOR) {
             return Ok(Doing::Over(Outcome::OutOfFuel));
         }
         match total.checked_add(value) {
@@ -315,7 +316,7 @@ impl<'a, R: CellRead> Machine<'a, R> {
         ensures tasks_built { OnOk result (IsBuiltMachine self.new) }
         ensures falls { IfOk result (λ d. measure self.new d < load_give self.old + 1) }
     {
-        if !self.state.pay(self.frame.inv, 4) {
+        if !self.state.pay(self.frame.inv, WRITE) {
             return Ok(Doing::Over(Outcome::OutOfFuel));
         }
         let cell = self.plain_cell(field);

@@ -10,13 +10,13 @@ use std::marker::Model;
 
 /// Cells with their values, in the order of first read, which contracts see as that list.
 #[derive(Drop)]
-pub(crate) struct Reads {
+pub(crate) struct ReadLog {
     list: Vec<(Cell, u128)>,
     /// The cells of the list, to tell fast whether one is there.
     cells: BTreeSet<Cell>,
 }
 
-impl Model for Reads {
+impl Model for ReadLog {
     ghost use Rattle.ecf_lang.specs.Store.{Cells};
     ghost use Rattle.ecf_interp.specs.ReadCells.{HasCellsOf};
 
@@ -27,11 +27,11 @@ impl Model for Reads {
     ghost invariant = { λ r. HasCellsOf r.cells r.list.items };
 }
 
-impl Reads {
-    pub(crate) fn new(alloc: Global) -> Reads
+impl ReadLog {
+    pub(crate) fn new(alloc: Global) -> ReadLog
         ensures { result ≡ [] }
     {
-        Reads {
+        ReadLog {
             list: Vec::new(alloc),
             cells: BTreeSet::new(alloc),
         }
@@ -56,7 +56,7 @@ impl Reads {
     pub(crate) fn into_vec(self) -> Vec<(Cell, u128)>
         ensures { result.items ≡ self }
     {
-        let Reads { list, cells: _ } = self;
+        let ReadLog { list, cells: _ } = self;
         list
     }
 }

@@ -2,11 +2,12 @@
 
 ghost use Rattle.std.specs.Prelude.{◌≡◌, ◌+◌, ◌^◌, ◌<◌, length, List, ℕ, All, IfOk, OnOk};
 ghost use Rattle.ecf_lang.specs.Store.{Store};
+ghost use Rattle.ecf_lang.specs.declared.limits.TheConstants.{MAX_INVOCATIONS};
 ghost use Rattle.ecf_lang.specs.Part.{Done, after, pay, read_cell, write_cell, note, begin, with_answer, with_charge, with_change};
 ghost use Rattle.ecf_lang.specs.Meaning.{initial_state, result_of, kept_run};
-ghost use Rattle.ecf_interp.specs.Reach.{paid, reached, closing};
+ghost use Rattle.ecf_interp.specs.Reach.{payment, outcome_at, note_answer};
 
-use crate::reads::Reads;
+use crate::reads::ReadLog;
 use ecf_lang::cell::{Cell, CellRead};
 use ecf_lang::run::{Invocation, Outcome, Run, Step};
 use sqlite_items::Items;
@@ -19,20 +20,20 @@ use std::marker::Model;
 pub(crate) struct RunState {
     fuel: u32,
     written: BTreeMap<Cell, u128>,
-    reads: Reads,
+    reads: ReadLog,
     steps: Vec<Step>,
     invocations: Vec<Invocation>,
 }
 
 impl Model for RunState {
     ghost use Rattle.ecf_lang.specs.Part.{State};
-    ghost use Rattle.ecf_interp.specs.Charges.{Bounded};
+    ghost use Rattle.ecf_interp.specs.Charges.{ChargesFit};
 
     ghost Value = { State };
 
     ghost view = { λ s. record { fuel = s.fuel; written = s.written.entries; reads = s.reads; steps = s.steps.items; invocations = s.invocations.items } };
 
-    ghost invariant = { λ s. Bounded s.fuel s.invocations.items };
+    ghost invariant = { λ s. ChargesFit s.fuel s.invocations.items };
 }
 
 impl RunState {
@@ -42,7 +43,7 @@ impl RunState {
         RunState {
             fuel,
             written: BTreeMap::new(alloc),
-            reads: Reads::new(alloc),
+            reads: ReadLog::new(alloc),
             steps: Vec::new(alloc),
             invocations: Vec::new(alloc),
         }
@@ -50,7 +51,7 @@ impl RunState {
 
     /// Charges fuel in an invocation, if there is as much; else there is none left.
     pub(crate) fn pay(&mut self, inv: u16, fuel: u32) -> bool
-        ensures { pay inv fuel self.old ≡ paid result self.new }
+        ensures { pay inv fuel self.old ≡ payment result self.new }
     {
         if self.fuel < fuel {
             self.fuel = 0;
@@ -115,7 +116,7 @@ impl RunState {
         method: u16,
         args: Items<u128>,
     ) -> Result<u16, AllocError>
-        requires { length self.old.invocations < 1024 }
+        requires { length self.old.invocations < MAX_INVOCATIONS }
         ensures { IfOk result (λ inv. begin object method args self.old ≡ Done inv self.new) }
     {
         let inv = self.invocations.len() as u16;
@@ -133,7 +134,7 @@ impl RunState {
 
     /// Notes how an invocation's method ended, if by an answer.
     pub(crate) fn close(&mut self, inv: u16, outcome: Outcome)
-        ensures { after (reached outcome self.old) (closing inv) ≡ reached outcome self.new }
+        ensures { after (outcome_at outcome self.old) (note_answer inv) ≡ outcome_at outcome self.new }
     {
         if let Outcome::Answer(value) = outcome {
             self.answer(inv, value);
@@ -155,7 +156,7 @@ impl RunState {
         fuel: u32,
         outcome: Outcome,
     ) -> Result<Run, AllocError>
-        ensures { IfOk result (λ r. (store : Store) → r ≡ kept_run (result_of store fuel (reached outcome self))) }
+        ensures { IfOk result (λ r. (store : Store) → r ≡ kept_run (result_of store fuel (outcome_at outcome self))) }
     {
         let RunState {
             fuel: left,

@@ -4,8 +4,8 @@ use Rattle.ecf_interp.specs.Built.{IsBuiltStmt}
 use Rattle.ecf_interp.proofs.CallSteps.{method_built, call_full, call_missing, call_opened}
 use Rattle.ecf_interp.proofs.calls.run_call.Goals as goal
 
-pub returns-then-invocation_count-ge1024 : goal.returns-then-invocation_count-ge1024
-returns-then-invocation_count-ge1024 g c = call_full _ _ _ _ _ _ (omega arith)
+pub returns-then-invocation_count-ge-MAX_INVOCATIONS : goal.returns-then-invocation_count-ge-MAX_INVOCATIONS
+returns-then-invocation_count-ge-MAX_INVOCATIONS g c = call_full _ _ _ _ _ _ (omega arith)
 
 pub returns-in_default : goal.returns-in_default
 returns-in_default g c = call_missing _ _ _ _ _ _ (omega arith) (sym c.in_default.ensures)

@@ -1,6 +1,6 @@
 use Rattle.std.proofs.Common.{arith}
 use Rattle.ecf_interp.specs.Resume.{store_in, frame_in, plug_in}
-use Rattle.ecf_interp.proofs.Steps.{keeps_under, add_short, add_over, add_on}
+use Rattle.ecf_interp.proofs.MachineSteps.{keeps_under, add_short, add_over, add_on}
 use Rattle.ecf_interp.proofs.machine.Machine.add.Goals as goal
 
 pub returns-then-not-pay-clause-same : goal.returns-then-not-pay-clause-same

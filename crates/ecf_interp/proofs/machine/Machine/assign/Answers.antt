@@ -1,5 +1,5 @@
 use Rattle.ecf_interp.specs.Resume.{store_in, frame_in, plug_in}
-use Rattle.ecf_interp.proofs.Steps.{assign_short, assign_on}
+use Rattle.ecf_interp.proofs.MachineSteps.{assign_short, assign_on}
 use Rattle.ecf_interp.proofs.machine.Machine.assign.Goals as goal
 
 pub returns-then-not-pay-clause-same : goal.returns-then-not-pay-clause-same

@@ -2,9 +2,9 @@ use Rattle.std.proofs.Common.{ap, sym, ◌∙◌}
 use Rattle.std.specs.List.{list_all}
 use Rattle.ecf_interp.specs.Resume.{store_in, frame_in}
 use Rattle.ecf_interp.proofs.BuiltForms.{built_name, built_parts, no_further_expr}
-use Rattle.ecf_interp.proofs.Holds.{push_built}
+use Rattle.ecf_interp.proofs.BuiltTasks.{push_built}
 use Rattle.ecf_interp.specs.Built.{is_built_expr, is_built_part}
-use Rattle.ecf_interp.proofs.Steps.{sum_begun}
+use Rattle.ecf_interp.proofs.MachineSteps.{sum_begun}
 use Rattle.ecf_interp.proofs.Sizes.{sum_falls}
 use Rattle.ecf_interp.proofs.machine.Machine.eval.Goals as goal
 

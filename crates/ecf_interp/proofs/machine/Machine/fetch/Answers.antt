@@ -1,6 +1,6 @@
 use Rattle.std.proofs.Common.{arith}
 use Rattle.ecf_lang.specs.declared.typed.Place.TheVariants as place
-use Rattle.ecf_interp.proofs.Steps.{fetch_short, fetch_read}
+use Rattle.ecf_interp.proofs.MachineSteps.{fetch_short, fetch_read}
 use Rattle.ecf_interp.proofs.Sizes.{size_name}
 use Rattle.ecf_interp.proofs.machine.Machine.fetch.Goals as goal
 

@@ -1,7 +1,7 @@
 use Rattle.std.proofs.Common.{length-drop, arith}
 use Rattle.std.proofs.lemmas.List.{take_all}
 use Rattle.ecf_interp.specs.Resume.{store_in, frame_in}
-use Rattle.ecf_interp.proofs.Steps.{sum_further}
+use Rattle.ecf_interp.proofs.MachineSteps.{sum_further}
 use Rattle.ecf_interp.proofs.machine.Machine.further.Goals as goal
 
 pub returns-in_ok-push-in-len1-up-clause-same : goal.returns-in_ok-push-in-len1-up-clause-same

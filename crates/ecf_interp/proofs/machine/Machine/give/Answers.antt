@@ -1,4 +1,4 @@
-use Rattle.ecf_interp.proofs.Holds.{pop_built}
+use Rattle.ecf_interp.proofs.BuiltTasks.{pop_built}
 use Rattle.ecf_interp.proofs.machine.Machine.give.Goals as goal
 
 pub go_on-requires-clause-tasks_built : goal.go_on-requires-clause-tasks_built

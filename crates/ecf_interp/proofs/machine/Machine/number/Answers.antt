@@ -1,5 +1,5 @@
 use Rattle.std.proofs.Common.{arith}
-use Rattle.ecf_interp.proofs.Steps.{number_short, number_paid}
+use Rattle.ecf_interp.proofs.MachineSteps.{number_short, number_paid}
 use Rattle.ecf_interp.proofs.Sizes.{size_number}
 use Rattle.ecf_interp.proofs.machine.Machine.number.Goals as goal
 

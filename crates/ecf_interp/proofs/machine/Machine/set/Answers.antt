@@ -1,7 +1,7 @@
 use Rattle.std.proofs.Common.{ap}
 use Rattle.ecf_lang.specs.declared.typed.TypedStmt.TheVariants.{Set}
 use Rattle.ecf_interp.specs.Resume.{store_in, frame_in, plug_in}
-use Rattle.ecf_interp.proofs.Steps.{keeps_under, set_waits}
+use Rattle.ecf_interp.proofs.MachineSteps.{keeps_under, set_waits}
 use Rattle.ecf_interp.proofs.machine.Machine.set.Goals as goal
 
 pub returns-clause-same : goal.returns-clause-same

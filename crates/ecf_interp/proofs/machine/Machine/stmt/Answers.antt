@@ -1,5 +1,5 @@
 use Rattle.ecf_interp.specs.Resume.{store_in, frame_in, plug_in}
-use Rattle.ecf_interp.proofs.Steps.{keeps_under, return_waits, revert_waits}
+use Rattle.ecf_interp.proofs.MachineSteps.{keeps_under, return_waits, revert_waits}
 use Rattle.ecf_interp.proofs.machine.Machine.stmt.Goals as goal
 
 pub returns-in-Return-clause-same : goal.returns-in-Return-clause-same

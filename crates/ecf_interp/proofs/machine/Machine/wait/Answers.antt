@@ -1,5 +1,5 @@
 use Rattle.ecf_interp.specs.Resume.{store_in, frame_in}
-use Rattle.ecf_interp.proofs.Steps.{wait_short, wait_on}
+use Rattle.ecf_interp.proofs.MachineSteps.{wait_short, wait_on}
 use Rattle.ecf_interp.proofs.machine.Machine.wait.Goals as goal
 
 pub returns-then-not-pay-clause-same : goal.returns-then-not-pay-clause-same

@@ -1,7 +1,7 @@
 use Rattle.std.proofs.Common.{◌≡◌, is_some, [], ◌∷◌, ◌++◌, ap, sym, ◌∙◌}
 use Rattle.ecf_lang.specs.Store.{find_cell}
 use Rattle.ecf_interp.proofs.CellOrder.{HasCellsOf-push}
-use Rattle.ecf_interp.proofs.reads.Reads.push.Goals as goal
+use Rattle.ecf_interp.proofs.reads.ReadLog.push.Goals as goal
 
 pub invariant_of-self-2 : goal.invariant_of-self-2
 invariant_of-self-2 c =
