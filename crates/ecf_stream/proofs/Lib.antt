@@ -1,3 +1,2 @@
-pub mod Decimal
-pub mod Words
-pub mod Names
+pub mod WordLaws
+pub mod NameLaws

@@ -6,7 +6,7 @@ use Rattle.indexmap.specs.IndexMap.{get_by}
 use Rattle.ecf_lang.specs.declared.typed.Typed.{Typed}
 use Rattle.ecf_stream.specs.declared.lookup.NameTable.{NameTable}
 use Rattle.ecf_stream.specs.declared.lookup.Lookup.{Lookup}
-use Rattle.ecf_texts.specs.Line.{number_named, object_names}
+use Rattle.ecf_lines.specs.Line.{number_named, object_names}
 
 -- the number of a name in a table
 abbrev pub number_in : NameTable → List ℕ → Option ℕ

@@ -2,7 +2,7 @@
 use Rattle.std.specs.Prelude.{ℕ, List}
 use Rattle.ecf_lang.specs.declared.typed.Typed.{Typed}
 use Rattle.ecf_lang.specs.declared.tx.Tx.{Tx}
-use Rattle.ecf_texts.specs.OneLine.{IsEndedLine, IsOneLine}
+use Rattle.ecf_lines.specs.OneLine.{IsEndedLine, IsOneLine}
 
 -- the bytes are no line with its LF
 abbrev pub EndsNoLine : List ℕ → Type 0

@@ -4,7 +4,7 @@ use Rattle.ecf_lang.specs.declared.receipt.StopCause.{StopCause}
 use Rattle.ecf_lang.specs.declared.receipt.StopCause.TheVariants as stop
 use Rattle.ecf_stream.specs.declared.fault.StreamFault.{StreamFault}
 use Rattle.ecf_stream.specs.declared.fault.StreamFault.TheVariants.{Form, NoObject, NoMethod, BadFuel, Arity, BadArg, NoMemory}
-use Rattle.ecf_texts.specs.Line.{Reading}
+use Rattle.ecf_lines.specs.Line.{Reading}
 
 -- the cause of a stop that the fault is; want of memory is none
 abbrev pub cause_of : StreamFault → Option StopCause

@@ -10,7 +10,7 @@ mod one_line;
 pub use fault::StreamFault;
 pub use line::{read_tx, read_tx_by};
 pub use lookup::Lookup;
-pub use one_line::{MAX_LINE_BYTES, read_one};
+pub use one_line::read_one;
 
 #[cfg(test)]
 mod tests;

@@ -1,19 +1,21 @@
 //! What a line says.
 
-ghost use Rattle.std.specs.Prelude.{◌≡◌, ◌<◌, length, map, IfOk, IfErr, IfSome, MatchOption, Ok, Err};
+ghost use Rattle.std.specs.Prelude.{◌≡◌, ◌<◌, length, map, IfOk, IfErr, IfSome, Ok, Err};
 ghost use Rattle.std.specs.List.{list_any};
 ghost use Rattle.ecf_lang.specs.Fits.{Fits};
-ghost use Rattle.ecf_texts.specs.Line.{IsNumbered, Reading, words, is_empty, is_skipped, object_named, method_named, flag_named, value_of, values_of, arguments_of, tx_of_words, line_of};
-ghost use Rattle.ecf_texts.specs.Spelled.{SpellsTx};
+ghost use Rattle.ecf_lines.specs.Line.{IsNumbered, Reading, words, is_empty, is_skipped, object_named, method_named, flag_named, value_of, values_of, arguments_of, tx_of_words, line_of};
+ghost use Rattle.ecf_lines.specs.Spelled.{SpellsTx};
 ghost use Rattle.ecf_stream.specs.Lookup.{Finds};
 ghost use Rattle.ecf_stream.specs.StreamFault.{cause_of, Tells};
 
 use crate::fault::StreamFault;
 use crate::lookup::Lookup;
 use crate::number::number_within;
+use ecf_lang::limits::MAX_FUEL;
 use ecf_lang::tree::Ty;
 use ecf_lang::tx::{Tx, TxCall};
 use ecf_lang::typed::Typed;
+use ecf_lines::laws::{lines_fit, lines_spell};
 use sqlite_items::Items;
 use std::alloc::{AllocError, Global};
 
@@ -44,20 +46,8 @@ pub fn read_tx_by(
     ensures spells { IfOk result (λ said. IfSome said (SpellsTx typed.now line.now)) }
     ensures fits { IfOk result (λ said. IfSome said (Fits typed.now)) }
 {
-    what_it_says(alloc, typed, lookup, line)
-}
-
-fn what_it_says(
-    alloc: Global,
-    typed: &Typed,
-    lookup: &Lookup,
-    line: &[u8],
-) -> Result<Option<Tx>, StreamFault>
-    requires numbered { IsNumbered typed.now }
-    requires found { Finds typed.now lookup.now }
-    ensures read { IfOk result (λ said. line_of typed.now line.now ≡ Ok said) }
-    ensures refused { IfErr result (λ e. IfSome (cause_of e) (λ cause. line_of typed.now line.now ≡ Err cause)) }
-{
+    lines_fit();
+    lines_spell();
     if is_skipped(line) {
         return Ok(None);
     }
@@ -105,7 +95,7 @@ fn tx_of_words(
     let Some(method) = method_named(typed, lookup, object, method) else {
         return Err(StreamFault::NoMethod);
     };
-    let Some(fuel) = number_within(1, 1_000_000, fuel) else {
+    let Some(fuel) = number_within(1, u128::from(MAX_FUEL), fuel) else {
         return Err(StreamFault::BadFuel);
     };
     let args = arguments_of(alloc, typed, lookup, method, args)?;

@@ -3,18 +3,16 @@
 ghost use Rattle.std.specs.Prelude.{◌≡◌, MatchOption, IfOk, IfSome, IfNone};
 ghost use Rattle.std.specs.Str.Lines.{strip_carriage_return};
 ghost use Rattle.ecf_lang.specs.declared.tx.Tx.{Tx};
-ghost use Rattle.ecf_texts.specs.Line.{IsNumbered};
-ghost use Rattle.ecf_texts.specs.OneLine.{IsEndedLine, IsOneLine};
+ghost use Rattle.ecf_lines.specs.Line.{IsNumbered};
+ghost use Rattle.ecf_lines.specs.OneLine.{IsEndedLine, IsOneLine};
 ghost use Rattle.ecf_stream.specs.OneLine.{EndsNoLine, SaysNothing};
 
 use crate::fault::StreamFault;
 use crate::line::read_tx;
+use ecf_lang::limits::MAX_LINE_BYTES;
 use ecf_lang::tx::Tx;
 use ecf_lang::typed::Typed;
 use std::alloc::{AllocError, Global};
-
-/// How many bytes a line may have, its CR counted and its LF not.
-pub const MAX_LINE_BYTES: usize = 4096;
 
 /// The transaction of a stream that is one line, ended by an LF; None where the bytes are no such line.
 pub fn read_one(alloc: Global, typed: &Typed, bytes: &[u8]) -> Result<Option<Tx>, AllocError>

@@ -1,7 +1,7 @@
 //! Lines with what they say, written out by hand.
 
 ghost use Rattle.std.specs.Prelude.{IfOk};
-ghost use Rattle.ecf_texts.specs.Line.{IsNumbered};
+ghost use Rattle.ecf_lines.specs.Line.{IsNumbered};
 
 use crate::{Lookup, StreamFault, read_one, read_tx, read_tx_by};
 use ecf_lang::name::Name;
@@ -88,7 +88,9 @@ fn refuses_lines(rt: HostRuntime) -> Result<(), Fail> {
         ("1 Counter bump 1000001 5", StreamFault::BadFuel),
         ("1 Counter bump 1e3", StreamFault::BadFuel),
         ("1 Counter bump 100 5", StreamFault::Arity),
+        ("1 Counter bump 100 1 2 3 4 5 6 7 8 9", StreamFault::Arity),
         ("1 Bank put 100 x true", StreamFault::Arity),
+        ("1 Bank put 100 1 true Bank 4 5 6 7 8 9", StreamFault::Arity),
         ("1 Bank put 100 -1 true Bank", StreamFault::BadArg),
         (
             "1 Bank put 100 340282366920938463463374607431768211456 true Bank",
@@ -156,17 +158,41 @@ fn skips_lines(rt: HostRuntime) -> Result<(), Fail> {
     Ok(())
 }
 
+// Zeros, and then this text.
+fn zeros_before(alloc: Global, zeros: usize, text: &[u8]) -> Result<Vec<u8>, AllocError> {
+    let mut line = Vec::new(alloc);
+    for _ in 0..zeros {
+        line.push(b'0')?;
+    }
+    line.extend_from_slice(text)?;
+    Ok(line)
+}
+
 #[test]
 fn reads_many_zeros(rt: HostRuntime) -> Result<(), Fail> {
     let alloc = rt.alloc();
     let typed = contract(alloc)?;
-    let mut line = Vec::new(alloc);
-    for _ in 0..4000 {
-        line.push(b'0')?;
-    }
-    line.extend_from_slice(b"7 Counter bump 100")?;
+    let line = zeros_before(alloc, 4000, b"7 Counter bump 100")?;
     let tx = read_tx(alloc, &typed, line.as_slice()).ok().flatten();
     assert!(rt; tx.is_some_and(|tx| tx.submitter == 7));
+    Ok(())
+}
+
+#[test]
+fn reads_lines_up_to_their_limit(rt: HostRuntime) -> Result<(), Fail> {
+    let alloc = rt.alloc();
+    let typed = contract(alloc)?;
+    // The text has 18 bytes before its CR or LF.
+    for (zeros, text, is_line) in [
+        (4078, "7 Counter bump 100\n", true),
+        (4079, "7 Counter bump 100\n", false),
+        (4077, "7 Counter bump 100\r\n", true),
+        (4078, "7 Counter bump 100\r\n", false),
+    ] {
+        let bytes = zeros_before(alloc, zeros, text.as_bytes())?;
+        let tx = read_one(alloc, &typed, bytes.as_slice())?;
+        assert_eq!(rt; tx.is_some(), is_line, "{zeros} {text}");
+    }
     Ok(())
 }
 

@@ -1,8 +1,8 @@
 use Rattle.std.proofs.Common.{ℕ, List, Bor, sym, ◌∙◌, rules, tests}
 use Rattle.std.proofs.lemmas.Iterator.{YieldsList-from_slice}
 use Rattle.std.proofs.lemmas.Iterator.Search.{any_from_yields_List}
-use Rattle.ecf_texts.specs.Line.{is_empty}
-use Rattle.ecf_stream.proofs.Words.{list_any-seen}
+use Rattle.ecf_lines.specs.Line.{is_empty}
+use Rattle.ecf_stream.proofs.WordLaws.{list_any-seen}
 use Rattle.ecf_stream.proofs.line.has_empty_word.Goals as goal
 
 pub returns : goal.returns

@@ -1,7 +1,7 @@
 use Rattle.std.proofs.Common.{◌∙◌, ◌∷◌, ap, sym, ◌++◌, ◌≡◌, arith, length}
 use Rattle.std.specs.Option.{option_map}
-use Rattle.ecf_texts.specs.Line.{values_of}
-use Rattle.ecf_stream.proofs.Words.{seen, next_value}
+use Rattle.ecf_lines.specs.Line.{values_of}
+use Rattle.ecf_stream.proofs.WordLaws.{seen, next_value}
 use Rattle.ecf_stream.proofs.line.values_of.Goals as goal
 
 pub loop-ty-preserved : goal.loop-ty-preserved

@@ -1,6 +1,6 @@
 use Rattle.std.proofs.Common.{◌≡◌, ◌++◌, length, map}
 use Rattle.std.specs.Option.{option_map}
-use Rattle.ecf_texts.specs.Line.{values_of}
+use Rattle.ecf_lines.specs.Line.{values_of}
 use Rattle.ecf_stream.proofs.line.values_of.Given as goal
 
 -- the values so far, and those of the words that are left

@@ -1,6 +1,6 @@
 use Rattle.std.proofs.Common.{◌≡◌, ◌+◌, ◌<◌, List, ℕ, [], ◌∷◌, ◌++◌, length, take, ap, sym, subst, ◌∙◌, arith, add-one}
 use Rattle.ecf_stream.specs.Lookup.{FindsNames, AddsName}
-use Rattle.ecf_stream.proofs.Names.{length_taken, one_more, finds_more}
+use Rattle.ecf_stream.proofs.NameLaws.{length_taken, one_more, finds_more}
 use Rattle.ecf_stream.proofs.lookup.table_of_names.Goals as goal
 
 pub loop-number-preserved : goal.loop-number-preserved

@@ -1,7 +1,7 @@
 use Rattle.std.proofs.Common.{◌≡◌, ◌+◌, ◌<◌, List, ℕ, [], ◌∷◌, ◌++◌, length, map, take, ap, sym, subst, ◌∙◌, arith, add-one}
 use Rattle.ecf_lang.specs.declared.typed.TypedObject.{TypedObject}
 use Rattle.ecf_stream.specs.Lookup.{FindsNames, AddsName}
-use Rattle.ecf_stream.proofs.Names.{length_taken, length_mapped, map_push, one_more, finds_more}
+use Rattle.ecf_stream.proofs.NameLaws.{length_taken, length_mapped, map_push, one_more, finds_more}
 use Rattle.ecf_stream.proofs.lookup.table_of_objects.Goals as goal
 
 abbrev name_of : TypedObject → List ℕ

@@ -3,7 +3,7 @@ use Rattle.std.specs.Str.{bytes_eq}
 use Rattle.std.specs.Map.{lookup}
 use Rattle.indexmap.specs.IndexMap.{get_by}
 use Rattle.indexmap.proofs.CallerLemmas.{insert_entry-new}
-use Rattle.ecf_stream.proofs.Names.{or_new, missing, lookup_push}
+use Rattle.ecf_stream.proofs.NameLaws.{or_new, missing, lookup_push}
 use Rattle.ecf_stream.proofs.lookup.NameTable.add.Goals as goal
 
 pub returns-in_ok-insert : goal.returns-in_ok-insert

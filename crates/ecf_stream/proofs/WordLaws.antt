@@ -4,7 +4,7 @@ use Rattle.std.specs.List.{list_any}
 use Rattle.std.specs.Option.{option_map}
 use Rattle.ecf_lang.specs.declared.tree.Ty.{Ty}
 use Rattle.ecf_lang.specs.declared.typed.Typed.{Typed}
-use Rattle.ecf_texts.specs.Line.{value_of, values_of}
+use Rattle.ecf_lines.specs.Line.{value_of, values_of}
 
 -- words without their references
 abbrev pub seen : List (Bor (List ℕ)) → List (List ℕ)
