@@ -1,5 +1,6 @@
 -- The tests of a call, in their order: open frames, then invocations, then the method.
 use Rattle.std.specs.Prelude.{◌≡◌, ℕ, suc, ◌<◌, ◌≤◌, List, length, None}
+use Rattle.ecf_lang.specs.declared.limits.TheConstants.{MAX_INVOCATIONS}
 use Rattle.ecf_lang.specs.declared.run.Cause.TheVariants.{NoMethod, Depth, Calls}
 use Rattle.ecf_lang.specs.declared.typed.Typed.{Typed}
 use Rattle.ecf_lang.specs.Store.{Store}
@@ -20,12 +21,13 @@ DepthBeforeMethod = (typed : Typed) (store : Store) (here inv name : ℕ) (args 
 -- where a frame may be opened and no invocation, a call reverts for that, whatever the method
 abbrev pub InvocationsBeforeMethod : Type 0
 InvocationsBeforeMethod = (typed : Typed) (store : Store) (room to name : ℕ) (args : List ℕ) (s : State) →
-    1024 ≤ length s.invocations → (ways typed store (suc room)).anew to name args s ≡ Exit (Reverts Calls) s
+    MAX_INVOCATIONS ≤ length s.invocations → (ways typed store (suc room)).anew to name args s ≡ Exit (Reverts Calls) s
 
 -- where both may be opened, a missing method is what a call reverts for, and no invocation is opened
 abbrev pub MethodAtLast : Type 0
 MethodAtLast = (typed : Typed) (store : Store) (room to name : ℕ) (args : List ℕ) (s : State) →
-    length s.invocations < 1024 → method_at typed to name ≡ None → (ways typed store (suc room)).anew to name args s ≡ Exit (Reverts NoMethod) s
+    length s.invocations < MAX_INVOCATIONS → method_at typed to name ≡ None →
+    (ways typed store (suc room)).anew to name args s ≡ Exit (Reverts NoMethod) s
 
 -- an internal call doesn't ask how many invocations there are
 abbrev pub InternalMethod : Type 0

@@ -1,16 +1,16 @@
--- Comparisons, `!`, `&&`, `||` and `if`.
+-- Comparisons, `!`, `&&`, `||`, `if`, and the end of a method.
 use Rattle.std.specs.Prelude.{◌≡◌, [], ◌∷◌, List, Some}
-use Rattle.ecf_lang.specs.declared.cell.Cell.{Cell}
-use Rattle.ecf_lang.specs.declared.tree.Op.TheVariants.{Eq, Ne, Lt, Le, Gt, Ge}
-use Rattle.ecf_lang.specs.declared.tree.Ty.TheVariants.{Num, Flag}
-use Rattle.ecf_lang.specs.declared.run.Outcome.TheVariants.{Answer}
-use Rattle.ecf_lang.specs.declared.typed.Typed.{Typed}
-use Rattle.ecf_lang.specs.declared.typed.TypedStmt.{TypedStmt}
-use Rattle.ecf_lang.specs.declared.tx.Tx.{Tx}
-use Rattle.ecf_lang.specs.Store.{Store}
+use Rattle.ecf_cases.specs.Words.{contract, signature, object, num_field, flag_field, with_first, method, num, local, field, no, compare, all_of, any_of, set_field, choose, arm, otherwise, when, returns, transaction, tx_call, invocation}
 use Rattle.ecf_lang.specs.Genesis.{genesis}
 use Rattle.ecf_lang.specs.Meaning.{run, RunResult}
-use Rattle.ecf_cases.specs.Words.{contract, takes, object, num_field, flag_field, starting, method, num, local, field, no, compare, all_of, any_of, set_field, choose, arm, otherwise, when, returns, transaction, calling, cell, reads, writes, invoked}
+use Rattle.ecf_lang.specs.declared.cell.Cell.{Cell}
+use Rattle.ecf_lang.specs.declared.run.Outcome.TheVariants.{Answer}
+use Rattle.ecf_lang.specs.declared.tree.Op.TheVariants.{Eq, Ne, Lt, Le, Gt, Ge}
+use Rattle.ecf_lang.specs.declared.tree.Ty.TheVariants.{Num, Flag}
+use Rattle.ecf_lang.specs.declared.tx.Tx.{Tx}
+use Rattle.ecf_lang.specs.declared.typed.Typed.{Typed}
+use Rattle.ecf_lang.specs.declared.typed.TypedStmt.{TypedStmt}
+use Rattle.ecf_verdicts.specs.Words.{cell, read_step, write_step}
 
 -- object L {
 --   num x = 3;
@@ -60,9 +60,9 @@ logic_silent =
 -- the contract
 abbrev pub logic : Typed
 logic = contract
-    (takes (Num ∷ []) Flag ∷ takes (Num ∷ []) Flag ∷ takes (Num ∷ []) Flag ∷ takes (Num ∷ []) Num
-    ∷ takes (Num ∷ []) Num ∷ [])
-    (object (starting ((0, 3) ∷ []) num_field ∷ starting ((0, 1) ∷ []) flag_field ∷ []) (
+    (signature (Num ∷ []) Flag ∷ signature (Num ∷ []) Flag ∷ signature (Num ∷ []) Flag ∷ signature (Num ∷ []) Num
+    ∷ signature (Num ∷ []) Num ∷ [])
+    (object (with_first ((0, 3) ∷ []) num_field ∷ with_first ((0, 1) ∷ []) flag_field ∷ []) (
     method 0 1 logic_both
     ∷ method 1 1 logic_either
     ∷ method 2 1 logic_three
@@ -79,304 +79,209 @@ f = cell 0 1 0
 
 -- L both 100 1
 abbrev pub both_1 : Tx
-both_1 = transaction 100 (calling 0 0 (1 ∷ []) ∷ [])
+both_1 = transaction 100 (tx_call 0 0 (1 ∷ []) ∷ [])
 
 -- a true left side of `&&`: the right side is evaluated
-abbrev pub both_read : RunResult
-both_read = record {
+abbrev pub both_1_result : RunResult
+both_1_result = record {
   outcome = Answer 1;
   fuel = 10;
   store = (x, 3) ∷ (f, 1) ∷ [];
-  steps = reads 0 x 3 ∷ [];
-  invocations = invoked 0 0 (1 ∷ []) (Some 1) [] 10 ∷ [];
+  steps = read_step 0 x 3 ∷ [];
+  invocations = invocation 0 0 (1 ∷ []) (Some 1) [] 10 ∷ [];
   reads = (x, 3) ∷ [];
   writes = [];
 }
 
 abbrev pub BothRead : Type 0
-BothRead = run logic (genesis logic) both_1 ≡ both_read
+BothRead = run logic (genesis logic) both_1 ≡ both_1_result
 
 -- L both 100 2
 abbrev pub both_2 : Tx
-both_2 = transaction 100 (calling 0 0 (2 ∷ []) ∷ [])
+both_2 = transaction 100 (tx_call 0 0 (2 ∷ []) ∷ [])
 
 -- a false left side of `&&`: the right side is not evaluated
-abbrev pub and_skipped : RunResult
-and_skipped = record {
+abbrev pub both_2_result : RunResult
+both_2_result = record {
   outcome = Answer 0;
   fuel = 5;
   store = (x, 3) ∷ (f, 1) ∷ [];
   steps = [];
-  invocations = invoked 0 0 (2 ∷ []) (Some 0) [] 5 ∷ [];
+  invocations = invocation 0 0 (2 ∷ []) (Some 0) [] 5 ∷ [];
   reads = [];
   writes = [];
 }
 
 abbrev pub RightSkipped : Type 0
-RightSkipped = run logic (genesis logic) both_2 ≡ and_skipped
+RightSkipped = run logic (genesis logic) both_2 ≡ both_2_result
 
 -- L either 100 1
 abbrev pub either_1 : Tx
-either_1 = transaction 100 (calling 0 1 (1 ∷ []) ∷ [])
+either_1 = transaction 100 (tx_call 0 1 (1 ∷ []) ∷ [])
 
 -- a false left side of `||`: the right side is evaluated
-abbrev pub or_read : RunResult
-or_read = record {
+abbrev pub either_1_result : RunResult
+either_1_result = record {
   outcome = Answer 0;
   fuel = 10;
   store = (x, 3) ∷ (f, 1) ∷ [];
-  steps = reads 0 x 3 ∷ [];
-  invocations = invoked 0 1 (1 ∷ []) (Some 0) [] 10 ∷ [];
+  steps = read_step 0 x 3 ∷ [];
+  invocations = invocation 0 1 (1 ∷ []) (Some 0) [] 10 ∷ [];
   reads = (x, 3) ∷ [];
   writes = [];
 }
 
 abbrev pub OtherRead : Type 0
-OtherRead = run logic (genesis logic) either_1 ≡ or_read
+OtherRead = run logic (genesis logic) either_1 ≡ either_1_result
 
 -- L either 100 2
 abbrev pub either_2 : Tx
-either_2 = transaction 100 (calling 0 1 (2 ∷ []) ∷ [])
+either_2 = transaction 100 (tx_call 0 1 (2 ∷ []) ∷ [])
 
 -- a true left side of `||`: the right side is not evaluated
-abbrev pub or_skipped : RunResult
-or_skipped = record {
+abbrev pub either_2_result : RunResult
+either_2_result = record {
   outcome = Answer 1;
   fuel = 5;
   store = (x, 3) ∷ (f, 1) ∷ [];
   steps = [];
-  invocations = invoked 0 1 (2 ∷ []) (Some 1) [] 5 ∷ [];
+  invocations = invocation 0 1 (2 ∷ []) (Some 1) [] 5 ∷ [];
   reads = [];
   writes = [];
 }
 
 abbrev pub OtherSkipped : Type 0
-OtherSkipped = run logic (genesis logic) either_2 ≡ or_skipped
+OtherSkipped = run logic (genesis logic) either_2 ≡ either_2_result
 
 -- L three 100 2
 abbrev pub three_2 : Tx
-three_2 = transaction 100 (calling 0 2 (2 ∷ []) ∷ [])
+three_2 = transaction 100 (tx_call 0 2 (2 ∷ []) ∷ [])
 
 -- three parts, the last one a `!`
-abbrev pub all_three : RunResult
-all_three = record {
+abbrev pub three_2_result : RunResult
+three_2_result = record {
   outcome = Answer 0;
   fuel = 13;
   store = (x, 3) ∷ (f, 1) ∷ [];
-  steps = reads 0 f 1 ∷ [];
-  invocations = invoked 0 2 (2 ∷ []) (Some 0) [] 13 ∷ [];
+  steps = read_step 0 f 1 ∷ [];
+  invocations = invocation 0 2 (2 ∷ []) (Some 0) [] 13 ∷ [];
   reads = (f, 1) ∷ [];
   writes = [];
 }
 
 abbrev pub AllThree : Type 0
-AllThree = run logic (genesis logic) three_2 ≡ all_three
+AllThree = run logic (genesis logic) three_2 ≡ three_2_result
 
 -- L three 100 6
 abbrev pub three_6 : Tx
-three_6 = transaction 100 (calling 0 2 (6 ∷ []) ∷ [])
+three_6 = transaction 100 (tx_call 0 2 (6 ∷ []) ∷ [])
 
 -- the first of three parts is false: one more charge, and no more parts
-abbrev pub none_of_three : RunResult
-none_of_three = record {
+abbrev pub three_6_result : RunResult
+three_6_result = record {
   outcome = Answer 0;
   fuel = 5;
   store = (x, 3) ∷ (f, 1) ∷ [];
   steps = [];
-  invocations = invoked 0 2 (6 ∷ []) (Some 0) [] 5 ∷ [];
+  invocations = invocation 0 2 (6 ∷ []) (Some 0) [] 5 ∷ [];
   reads = [];
   writes = [];
 }
 
 abbrev pub NoneOfThree : Type 0
-NoneOfThree = run logic (genesis logic) three_6 ≡ none_of_three
+NoneOfThree = run logic (genesis logic) three_6 ≡ three_6_result
 
 -- L choose 100 0
 abbrev pub choose_0 : Tx
-choose_0 = transaction 100 (calling 0 3 (0 ∷ []) ∷ [])
+choose_0 = transaction 100 (tx_call 0 3 (0 ∷ []) ∷ [])
 
 -- the first arm, which returns
-abbrev pub first_arm : RunResult
-first_arm = record {
+abbrev pub choose_0_result : RunResult
+choose_0_result = record {
   outcome = Answer 10;
   fuel = 6;
   store = (x, 3) ∷ (f, 1) ∷ [];
   steps = [];
-  invocations = invoked 0 3 (0 ∷ []) (Some 10) [] 6 ∷ [];
+  invocations = invocation 0 3 (0 ∷ []) (Some 10) [] 6 ∷ [];
   reads = [];
   writes = [];
 }
 
 abbrev pub FirstArm : Type 0
-FirstArm = run logic (genesis logic) choose_0 ≡ first_arm
+FirstArm = run logic (genesis logic) choose_0 ≡ choose_0_result
 
 -- L choose 100 1
 abbrev pub choose_1 : Tx
-choose_1 = transaction 100 (calling 0 3 (1 ∷ []) ∷ [])
+choose_1 = transaction 100 (tx_call 0 3 (1 ∷ []) ∷ [])
 
 -- the second arm, after both conditions
-abbrev pub second_arm : RunResult
-second_arm = record {
+abbrev pub choose_1_result : RunResult
+choose_1_result = record {
   outcome = Answer 20;
   fuel = 17;
   store = (x, 20) ∷ (f, 1) ∷ [];
-  steps = writes 0 x 20 ∷ reads 0 x 20 ∷ [];
-  invocations = invoked 0 3 (1 ∷ []) (Some 20) [] 17 ∷ [];
+  steps = write_step 0 x 20 ∷ read_step 0 x 20 ∷ [];
+  invocations = invocation 0 3 (1 ∷ []) (Some 20) [] 17 ∷ [];
   reads = [];
   writes = (x, 20) ∷ [];
 }
 
 abbrev pub SecondArm : Type 0
-SecondArm = run logic (genesis logic) choose_1 ≡ second_arm
+SecondArm = run logic (genesis logic) choose_1 ≡ choose_1_result
 
 -- L choose 100 2
 abbrev pub choose_2 : Tx
-choose_2 = transaction 100 (calling 0 3 (2 ∷ []) ∷ [])
+choose_2 = transaction 100 (tx_call 0 3 (2 ∷ []) ∷ [])
 
 -- the `else`
-abbrev pub last_block : RunResult
-last_block = record {
+abbrev pub choose_2_result : RunResult
+choose_2_result = record {
   outcome = Answer 30;
   fuel = 17;
   store = (x, 30) ∷ (f, 1) ∷ [];
-  steps = writes 0 x 30 ∷ reads 0 x 30 ∷ [];
-  invocations = invoked 0 3 (2 ∷ []) (Some 30) [] 17 ∷ [];
+  steps = write_step 0 x 30 ∷ read_step 0 x 30 ∷ [];
+  invocations = invocation 0 3 (2 ∷ []) (Some 30) [] 17 ∷ [];
   reads = [];
   writes = (x, 30) ∷ [];
 }
 
 abbrev pub LastBlock : Type 0
-LastBlock = run logic (genesis logic) choose_2 ≡ last_block
+LastBlock = run logic (genesis logic) choose_2 ≡ choose_2_result
 
 -- L silent 100 4
 abbrev pub silent_4 : Tx
-silent_4 = transaction 100 (calling 0 4 (4 ∷ []) ∷ [])
+silent_4 = transaction 100 (tx_call 0 4 (4 ∷ []) ∷ [])
 
 -- a method that runs to its end without a `return` answers 0
-abbrev pub ended_silently : RunResult
-ended_silently = record {
+abbrev pub silent_4_result : RunResult
+silent_4_result = record {
   outcome = Answer 0;
   fuel = 10;
   store = (x, 4) ∷ (f, 1) ∷ [];
-  steps = writes 0 x 4 ∷ [];
-  invocations = invoked 0 4 (4 ∷ []) (Some 0) [] 10 ∷ [];
+  steps = write_step 0 x 4 ∷ [];
+  invocations = invocation 0 4 (4 ∷ []) (Some 0) [] 10 ∷ [];
   reads = [];
   writes = (x, 4) ∷ [];
 }
 
 abbrev pub EndsSilently : Type 0
-EndsSilently = run logic (genesis logic) silent_4 ≡ ended_silently
+EndsSilently = run logic (genesis logic) silent_4 ≡ silent_4_result
 
 -- L silent 100 0
 abbrev pub silent_0 : Tx
-silent_0 = transaction 100 (calling 0 4 (0 ∷ []) ∷ [])
+silent_0 = transaction 100 (tx_call 0 4 (0 ∷ []) ∷ [])
 
 -- an `if` without an `else`, and a `return` from inside
-abbrev pub no_else : RunResult
-no_else = record {
+abbrev pub silent_0_result : RunResult
+silent_0_result = record {
   outcome = Answer 5;
   fuel = 6;
   store = (x, 3) ∷ (f, 1) ∷ [];
   steps = [];
-  invocations = invoked 0 4 (0 ∷ []) (Some 5) [] 6 ∷ [];
+  invocations = invocation 0 4 (0 ∷ []) (Some 5) [] 6 ∷ [];
   reads = [];
   writes = [];
 }
 
 abbrev pub NoElse : Type 0
-NoElse = run logic (genesis logic) silent_0 ≡ no_else
-
--- object G {
---   flag a;
---   flag b;
---   method both(): flag { return a && b; }
---   method either(): flag { return a || b; }
---   method not_a(): flag { return ! a; }
--- }
-
--- both of G
-abbrev pub flags_both : List TypedStmt
-flags_both = returns (all_of (field 0 ∷ field 1 ∷ [])) ∷ []
-
--- either of G
-abbrev pub flags_either : List TypedStmt
-flags_either = returns (any_of (field 0 ∷ field 1 ∷ [])) ∷ []
-
--- not_a of G
-abbrev pub flags_not_a : List TypedStmt
-flags_not_a = returns (no (field 0)) ∷ []
-
--- the contract
-abbrev pub flags : Typed
-flags = contract
-    (takes [] Flag ∷ takes [] Flag ∷ takes [] Flag ∷ [])
-    (object (flag_field ∷ flag_field ∷ []) (method 0 0 flags_both ∷ method 1 0 flags_either ∷ method 2 0 flags_not_a ∷ []) ∷ [])
-
--- a of G
-abbrev pub a : Cell
-a = cell 0 0 0
-
--- b of G
-abbrev pub b : Cell
-b = cell 0 1 0
-
--- a store whose flags are neither 0 nor 1
-abbrev pub odd_flags : Store
-odd_flags = (a, 7) ∷ (b, 9) ∷ []
-
--- G both 100
-abbrev pub ask_both : Tx
-ask_both = transaction 100 (calling 0 0 [] ∷ [])
-
--- any number but 0 counts as true, and `&&` has the value of the last part evaluated
-abbrev pub odd_both : RunResult
-odd_both = record {
-  outcome = Answer 9;
-  fuel = 8;
-  store = (a, 7) ∷ (b, 9) ∷ [];
-  steps = reads 0 a 7 ∷ reads 0 b 9 ∷ [];
-  invocations = invoked 0 0 [] (Some 9) [] 8 ∷ [];
-  reads = (a, 7) ∷ (b, 9) ∷ [];
-  writes = [];
-}
-
-abbrev pub OddBoth : Type 0
-OddBoth = run flags odd_flags ask_both ≡ odd_both
-
--- G either 100
-abbrev pub ask_either : Tx
-ask_either = transaction 100 (calling 0 1 [] ∷ [])
-
--- `||` has the value of the last part evaluated, too
-abbrev pub odd_either : RunResult
-odd_either = record {
-  outcome = Answer 7;
-  fuel = 5;
-  store = (a, 7) ∷ (b, 9) ∷ [];
-  steps = reads 0 a 7 ∷ [];
-  invocations = invoked 0 1 [] (Some 7) [] 5 ∷ [];
-  reads = (a, 7) ∷ [];
-  writes = [];
-}
-
-abbrev pub OddEither : Type 0
-OddEither = run flags odd_flags ask_either ≡ odd_either
-
--- G not_a 100
-abbrev pub ask_not_a : Tx
-ask_not_a = transaction 100 (calling 0 2 [] ∷ [])
-
--- `!` gives 0 or 1
-abbrev pub odd_not : RunResult
-odd_not = record {
-  outcome = Answer 0;
-  fuel = 5;
-  store = (a, 7) ∷ (b, 9) ∷ [];
-  steps = reads 0 a 7 ∷ [];
-  invocations = invoked 0 2 [] (Some 0) [] 5 ∷ [];
-  reads = (a, 7) ∷ [];
-  writes = [];
-}
-
-abbrev pub OddNot : Type 0
-OddNot = run flags odd_flags ask_not_a ≡ odd_not
+NoElse = run logic (genesis logic) silent_0 ≡ silent_0_result

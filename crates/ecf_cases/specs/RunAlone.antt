@@ -1,141 +1,143 @@
 -- Invocations of whole runs, each run alone.
 use Rattle.std.specs.Prelude.{◌≡◌, [], ◌∷◌, Some, None}
+use Rattle.ecf_cases.specs.AnswersOnRecord.{answers_on_record, m}
+use Rattle.ecf_cases.specs.BankClearsFirst.{bank_clears_first, owed, cash, got, tries}
+use Rattle.ecf_cases.specs.BankPaysFirst.{bank_pays_first}
+use Rattle.ecf_cases.specs.CaughtRevert.{caught_revert, x, y}
+use Rattle.ecf_cases.specs.Words.{invocation}
+use Rattle.ecf_lang.specs.Alone.{alone, Lone}
 use Rattle.ecf_lang.specs.declared.run.Cause.TheVariants.{User}
 use Rattle.ecf_lang.specs.declared.run.Outcome.TheVariants.{Answer, Reverted, OutOfFuel}
-use Rattle.ecf_lang.specs.Alone.{alone, Lone}
-use Rattle.ecf_cases.specs.Words.{reads, writes, invoked}
-use Rattle.ecf_cases.specs.Bank.{clears_first, pays_first, owed, cash, got, tries}
-use Rattle.ecf_cases.specs.Calling.{goes_on, m}
-use Rattle.ecf_cases.specs.Trying.{catches, x, y}
+use Rattle.ecf_verdicts.specs.Words.{read_step, write_step}
 
 -- the first withdrawal, on the cells of the bank before the run
 abbrev pub first_withdrawal : Lone
 first_withdrawal = record {
   outcome = Answer 5;
-  steps = reads 0 (owed 1) 5 ∷ writes 0 (owed 1) 0 ∷ reads 0 cash 20 ∷ writes 0 cash 15 ∷ [];
+  steps = read_step 0 (owed 1) 5 ∷ write_step 0 (owed 1) 0 ∷ read_step 0 cash 20 ∷ write_step 0 cash 15 ∷ [];
   writes = (owed 1, 0) ∷ (cash, 15) ∷ [];
   fields = (cash, 15) ∷ [];
 }
 
 abbrev pub FirstOfBank : Type 0
-FirstOfBank = alone clears_first 0 (invoked 0 0 (1 ∷ []) (Some 5) (0 ∷ []) 38) ((owed 1, 5) ∷ (cash, 20) ∷ []) ≡ first_withdrawal
+FirstOfBank = alone bank_clears_first 0 (invocation 0 0 (1 ∷ []) (Some 5) (0 ∷ []) 38) ((owed 1, 5) ∷ (cash, 20) ∷ []) ≡ first_withdrawal
 
 -- the second withdrawal, on the cells that the first left
 abbrev pub second_withdrawal : Lone
 second_withdrawal = record {
   outcome = Answer 0;
-  steps = reads 2 (owed 1) 0 ∷ writes 2 (owed 1) 0 ∷ reads 2 cash 15 ∷ writes 2 cash 15 ∷ [];
+  steps = read_step 2 (owed 1) 0 ∷ write_step 2 (owed 1) 0 ∷ read_step 2 cash 15 ∷ write_step 2 cash 15 ∷ [];
   writes = (owed 1, 0) ∷ (cash, 15) ∷ [];
   fields = (cash, 15) ∷ [];
 }
 
 abbrev pub SecondOfBank : Type 0
-SecondOfBank = alone clears_first 2 (invoked 0 0 (1 ∷ []) (Some 0) (0 ∷ []) 38) ((cash, 15) ∷ []) ≡ second_withdrawal
+SecondOfBank = alone bank_clears_first 2 (invocation 0 0 (1 ∷ []) (Some 0) (0 ∷ []) 38) ((cash, 15) ∷ []) ≡ second_withdrawal
 
 -- the first receipt, on no cells
-abbrev pub first_receipt : Lone
-first_receipt = record {
+abbrev pub first_receiving : Lone
+first_receiving = record {
   outcome = Answer 0;
-  steps = reads 1 got 0 ∷ writes 1 got 5 ∷ reads 1 tries 0 ∷ reads 1 tries 0 ∷ writes 1 tries 1 ∷ [];
+  steps = read_step 1 got 0 ∷ write_step 1 got 5 ∷ read_step 1 tries 0 ∷ read_step 1 tries 0 ∷ write_step 1 tries 1 ∷ [];
   writes = (got, 5) ∷ (tries, 1) ∷ [];
   fields = (got, 5) ∷ (tries, 1) ∷ [];
 }
 
 abbrev pub FirstOfThief : Type 0
-FirstOfThief = alone clears_first 1 (invoked 1 1 (5 ∷ []) (Some 0) (0 ∷ []) 42) [] ≡ first_receipt
+FirstOfThief = alone bank_clears_first 1 (invocation 1 1 (5 ∷ []) (Some 0) (0 ∷ []) 42) [] ≡ first_receiving
 
 -- the second receipt, on the cells that the first left
-abbrev pub second_receipt : Lone
-second_receipt = record {
+abbrev pub second_receiving : Lone
+second_receiving = record {
   outcome = Answer 0;
-  steps = reads 3 got 5 ∷ writes 3 got 5 ∷ reads 3 tries 1 ∷ [];
+  steps = read_step 3 got 5 ∷ write_step 3 got 5 ∷ read_step 3 tries 1 ∷ [];
   writes = (got, 5) ∷ [];
   fields = (got, 5) ∷ (tries, 1) ∷ [];
 }
 
 abbrev pub SecondOfThief : Type 0
-SecondOfThief = alone clears_first 3 (invoked 1 1 (0 ∷ []) (Some 0) [] 18) ((got, 5) ∷ (tries, 1) ∷ []) ≡ second_receipt
+SecondOfThief = alone bank_clears_first 3 (invocation 1 1 (0 ∷ []) (Some 0) [] 18) ((got, 5) ∷ (tries, 1) ∷ []) ≡ second_receiving
 
 -- where the bank pays first, the outer withdrawal alone clears before the inner one begins
 abbrev pub outer_withdrawal : Lone
 outer_withdrawal = record {
   outcome = Answer 5;
-  steps = reads 0 (owed 1) 5 ∷ reads 0 cash 20 ∷ writes 0 cash 15 ∷ writes 0 (owed 1) 0 ∷ [];
+  steps = read_step 0 (owed 1) 5 ∷ read_step 0 cash 20 ∷ write_step 0 cash 15 ∷ write_step 0 (owed 1) 0 ∷ [];
   writes = (owed 1, 0) ∷ (cash, 15) ∷ [];
   fields = (cash, 15) ∷ [];
 }
 
 abbrev pub UnclearedFirst : Type 0
-UnclearedFirst = alone pays_first 0 (invoked 0 0 (1 ∷ []) (Some 5) (0 ∷ []) 38) ((owed 1, 5) ∷ (cash, 20) ∷ []) ≡ outer_withdrawal
+UnclearedFirst = alone bank_pays_first 0 (invocation 0 0 (1 ∷ []) (Some 5) (0 ∷ []) 38) ((owed 1, 5) ∷ (cash, 20) ∷ []) ≡ outer_withdrawal
 
 -- where the bank pays first, the inner withdrawal alone pays nothing: it answers 0, and not 5
 abbrev pub inner_withdrawal : Lone
 inner_withdrawal = record {
   outcome = Answer 0;
-  steps = reads 2 (owed 1) 0 ∷ reads 2 cash 15 ∷ writes 2 cash 15 ∷ writes 2 (owed 1) 0 ∷ [];
+  steps = read_step 2 (owed 1) 0 ∷ read_step 2 cash 15 ∷ write_step 2 cash 15 ∷ write_step 2 (owed 1) 0 ∷ [];
   writes = (owed 1, 0) ∷ (cash, 15) ∷ [];
   fields = (cash, 15) ∷ [];
 }
 
 abbrev pub UnclearedSecond : Type 0
-UnclearedSecond = alone pays_first 2 (invoked 0 0 (1 ∷ []) (Some 5) (0 ∷ []) 38) ((cash, 15) ∷ []) ≡ inner_withdrawal
+UnclearedSecond = alone bank_pays_first 2 (invocation 0 0 (1 ∷ []) (Some 5) (0 ∷ []) 38) ((cash, 15) ∷ []) ≡ inner_withdrawal
 
 -- no recorded answer is left at a call: the run is out of fuel
-abbrev pub not_answered : Lone
-not_answered = record {
+abbrev pub unanswered_withdrawal : Lone
+unanswered_withdrawal = record {
   outcome = OutOfFuel;
-  steps = reads 0 (owed 1) 5 ∷ writes 0 (owed 1) 0 ∷ reads 0 cash 20 ∷ writes 0 cash 15 ∷ [];
+  steps = read_step 0 (owed 1) 5 ∷ write_step 0 (owed 1) 0 ∷ read_step 0 cash 20 ∷ write_step 0 cash 15 ∷ [];
   writes = [];
   fields = (owed 1, 5) ∷ (cash, 20) ∷ [];
 }
 
 abbrev pub NoAnswerLeft : Type 0
-NoAnswerLeft = alone clears_first 0 (invoked 0 0 (1 ∷ []) (Some 5) [] 38) ((owed 1, 5) ∷ (cash, 20) ∷ []) ≡ not_answered
+NoAnswerLeft = alone bank_clears_first 0 (invocation 0 0 (1 ∷ []) (Some 5) [] 38) ((owed 1, 5) ∷ (cash, 20) ∷ []) ≡ unanswered_withdrawal
 
 -- with one less than its own fuel, it is out of fuel
-abbrev pub not_paid : Lone
-not_paid = record {
+abbrev pub unpaid_withdrawal : Lone
+unpaid_withdrawal = record {
   outcome = OutOfFuel;
-  steps = reads 0 (owed 1) 5 ∷ writes 0 (owed 1) 0 ∷ reads 0 cash 20 ∷ writes 0 cash 15 ∷ [];
+  steps = read_step 0 (owed 1) 5 ∷ write_step 0 (owed 1) 0 ∷ read_step 0 cash 20 ∷ write_step 0 cash 15 ∷ [];
   writes = [];
   fields = (owed 1, 5) ∷ (cash, 20) ∷ [];
 }
 
 abbrev pub NoFuelLeft : Type 0
-NoFuelLeft = alone clears_first 0 (invoked 0 0 (1 ∷ []) (Some 5) (0 ∷ []) 37) ((owed 1, 5) ∷ (cash, 20) ∷ []) ≡ not_paid
+NoFuelLeft = alone bank_clears_first 0 (invocation 0 0 (1 ∷ []) (Some 5) (0 ∷ []) 37) ((owed 1, 5) ∷ (cash, 20) ∷ []) ≡ unpaid_withdrawal
 
 -- recorded answers are taken in order, by internal calls too
-abbrev pub heard_in_order : Lone
-heard_in_order = record {
+abbrev pub ordered_hearing : Lone
+ordered_hearing = record {
   outcome = Answer 241;
-  steps = writes 0 (m 60) 100 ∷ [];
+  steps = write_step 0 (m 60) 100 ∷ [];
   writes = (m 60, 100) ∷ [];
   fields = (m 60, 100) ∷ [];
 }
 
 abbrev pub HearsInOrder : Type 0
-HearsInOrder = alone goes_on 0 (invoked 0 0 [] (Some 241) (10 ∷ 30 ∷ 60 ∷ 100 ∷ 140 ∷ 240 ∷ []) 97) [] ≡ heard_in_order
+HearsInOrder = alone answers_on_record 0 (invocation 0 0 [] (Some 241) (10 ∷ 30 ∷ 60 ∷ 100 ∷ 140 ∷ 240 ∷ []) 97) [] ≡ ordered_hearing
 
 -- a `try` takes the recorded flag
-abbrev pub heard_flag : Lone
-heard_flag = record {
+abbrev pub flag_hearing : Lone
+flag_hearing = record {
   outcome = Answer 1;
-  steps = writes 0 x 1 ∷ reads 0 x 1 ∷ [];
+  steps = write_step 0 x 1 ∷ read_step 0 x 1 ∷ [];
   writes = (x, 1) ∷ [];
   fields = (x, 1) ∷ [];
 }
 
 abbrev pub HearsFlag : Type 0
-HearsFlag = alone catches 0 (invoked 0 0 [] (Some 1) (0 ∷ []) 25) [] ≡ heard_flag
+HearsFlag = alone caught_revert 0 (invocation 0 0 [] (Some 1) (0 ∷ []) 25) [] ≡ flag_hearing
 
 -- an undone invocation alone reverts, and its fields stay
-abbrev pub undone_run : Lone
-undone_run = record {
+abbrev pub undone_call : Lone
+undone_call = record {
   outcome = Reverted (User 3);
-  steps = writes 1 y 7 ∷ [];
+  steps = write_step 1 y 7 ∷ [];
   writes = [];
   fields = [];
 }
 
 abbrev pub UndoneAlone : Type 0
-UndoneAlone = alone catches 1 (invoked 1 1 [] None [] 8) [] ≡ undone_run
+UndoneAlone = alone caught_revert 1 (invocation 1 1 [] None [] 8) [] ≡ undone_call

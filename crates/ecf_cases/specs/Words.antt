@@ -1,6 +1,5 @@
 -- Small words for typed contracts, and for what their runs leave.
-use Rattle.std.specs.Prelude.{ℕ, Bool, true, false, List, [], ◌∷◌, map, Option, Some, None}
-use Rattle.ecf_lang.specs.declared.cell.Cell.{Cell}
+use Rattle.std.specs.Prelude.{ℕ, Bool, false, List, [], ◌∷◌, map, Option, Some, None}
 use Rattle.ecf_lang.specs.declared.tree.Op.{Op}
 use Rattle.ecf_lang.specs.declared.tree.Op.TheVariants.{Add, Sub, Mul, Div, Rem}
 use Rattle.ecf_lang.specs.declared.tree.Ty.{Ty}
@@ -21,7 +20,6 @@ use Rattle.ecf_lang.specs.declared.typed.TypedStmt.TheVariants as stmt
 use Rattle.ecf_lang.specs.declared.typed.TypedBlock.{TypedBlock, roll-TypedBlock}
 use Rattle.ecf_lang.specs.declared.tx.Tx.{Tx}
 use Rattle.ecf_lang.specs.declared.tx.TxCall.{TxCall}
-use Rattle.ecf_lang.specs.declared.run.Step.{Step}
 use Rattle.ecf_lang.specs.declared.run.Invocation.{Invocation}
 
 -- a contract, from the signatures of its method names and its objects; nobody's name is spelled
@@ -29,8 +27,8 @@ abbrev pub contract : List Signature → List TypedObject → Typed
 contract signatures objects = record { objects = objects; names = map (λ s. []) signatures; signatures = signatures }
 
 -- a signature
-abbrev pub takes : List Ty → Ty → Signature
-takes params answer = record { params = params; answer = answer }
+abbrev pub signature : List Ty → Ty → Signature
+signature params answer = record { params = params; answer = answer }
 
 -- an object
 abbrev pub object : List TypedField → List TypedMethod → TypedObject
@@ -53,8 +51,8 @@ abbrev pub map_field : Ty → Ty → TypedField
 map_field key value = record { name = []; kind = kind.Map key value; first = [] }
 
 -- a field with initial pairs of key and value; a plain field's key is 0
-abbrev pub starting : List (ℕ × ℕ) → TypedField → TypedField
-starting first one = record one { first = first }
+abbrev pub with_first : List (ℕ × ℕ) → TypedField → TypedField
+with_first first one = record one { first = first }
 
 -- statements between braces
 abbrev pub block : List TypedStmt → TypedBlock
@@ -85,8 +83,8 @@ abbrev pub field : ℕ → TypedExpr
 field n = expr.Name (place.Plain n)
 
 -- an object by its name
-abbrev pub named : ℕ → TypedExpr
-named n = expr.Name (place.Object n)
+abbrev pub object_name : ℕ → TypedExpr
+object_name n = expr.Name (place.Object n)
 
 -- an element of a map
 abbrev pub at : ℕ → TypedExpr → TypedExpr
@@ -132,12 +130,12 @@ abbrev pub any_of : List TypedExpr → TypedExpr
 any_of parts = expr.Or parts
 
 -- the answer of another object's method: the object, the method's name and the arguments
-abbrev pub calls : TypedExpr → ℕ → List TypedExpr → TypedExpr
-calls target name args = expr.Call (call.External target name args)
+abbrev pub external_call : TypedExpr → ℕ → List TypedExpr → TypedExpr
+external_call target name args = expr.Call (call.External target name args)
 
 -- the answer of a method of the own object
-abbrev pub self_calls : ℕ → List TypedExpr → TypedExpr
-self_calls name args = expr.Call (call.Internal name args)
+abbrev pub internal_call : ℕ → List TypedExpr → TypedExpr
+internal_call name args = expr.Call (call.Internal name args)
 
 -- a further local of numbers
 abbrev pub let_num : ℕ → TypedExpr → TypedStmt
@@ -197,24 +195,12 @@ abbrev pub transaction : ℕ → List TxCall → Tx
 transaction fuel calls = record { submitter = 1; fuel = fuel; calls = calls }
 
 -- a call of a transaction
-abbrev pub calling : ℕ → ℕ → List ℕ → TxCall
-calling object method args = record { object = object; method = method; args = args }
-
--- a cell
-abbrev pub cell : ℕ → ℕ → ℕ → Cell
-cell object field key = record { object = object; field = field; key = key }
-
--- the step of an invocation that reads a number from a cell
-abbrev pub reads : ℕ → Cell → ℕ → Step
-reads inv cell value = record { inv = inv; write = false; cell = cell; value = value }
-
--- the step of an invocation that writes a number into a cell
-abbrev pub writes : ℕ → Cell → ℕ → Step
-writes inv cell value = record { inv = inv; write = true; cell = cell; value = value }
+abbrev pub tx_call : ℕ → ℕ → List ℕ → TxCall
+tx_call object method args = record { object = object; method = method; args = args }
 
 -- an invocation: the called method, its arguments, its answer, what its calls answered, and the fuel charged in it
-abbrev pub invoked : ℕ → ℕ → List ℕ → Option ℕ → List ℕ → ℕ → Invocation
-invoked object method args answer answers own_fuel = record {
+abbrev pub invocation : ℕ → ℕ → List ℕ → Option ℕ → List ℕ → ℕ → Invocation
+invocation object method args answer answers own_fuel = record {
   object = object;
   method = method;
   args = args;
@@ -223,7 +209,3 @@ invoked object method args answer answers own_fuel = record {
   own_fuel = own_fuel;
   undone = false;
 }
-
--- an invocation that a try undid
-abbrev pub undid : Invocation → Invocation
-undid one = record one { undone = true }

@@ -2,6 +2,7 @@ pub mod Before
 pub mod BeforeLemmas
 pub mod Blocks
 pub mod Cases
+pub mod Computing
 pub mod Conflicts
 pub mod Cycles
 pub mod Free
@@ -17,3 +18,4 @@ pub mod SwapLemmas
 pub mod Swaps
 pub mod Traces
 pub mod Verdicts
+pub mod Words

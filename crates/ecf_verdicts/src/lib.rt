@@ -2,7 +2,7 @@
 //! `specs/`; each function here is a law about them, or a case worked out, and does nothing.
 #![tactic(auto)]
 
-ghost use Rattle.ecf_verdicts.specs.Cases.{ApartYetFree, CallbackFirst, CalledInside, CalledOutside, ClearsFirst, EqualValuesConflict, FirstReaderAgain, PaysFirst, RevertsLater, StartOutside, ThreeInARing, TwoCalls, TwoCycles, TwoObjects, TwoReaders};
+ghost use Rattle.ecf_verdicts.specs.Cases.{FirstReaderAgain, StartOutside, TwoCycles, TwoObjects, TwoReaders};
 ghost use Rattle.ecf_verdicts.specs.Laws.{ApprovesFree, ApprovesOrders, AtIsShortest, BeforeExactlyWhere, BeforeIsOfMembers, CycleNamed, FirstPartsFree, FreeExactlyWhereOrdered, FreeExactlyWherePlaced, FreeInBlocks, MembersAre, MembersPlacedOrRest, MovesSuffice, NextIsLeast, PlacedKeepsBefore, PlacesMembers, RestIsStuck, RestRises, SingleApproved, SingleFree, StepIsLeast, SwapsIntoOrder, SwapsKeepBefore, SwapsKeepInvocations, SwapsKeepWrites, SwapsPermute, SwapsUndone, TestTellsFree, VetoedExactlyWhere, VetoesExplain, VetoesLeast};
 ghost use Rattle.ecf_verdicts.specs.SerialLaws.{AlongEach, AlongPlaces, BarredChangesNothing, CommitKeepsEnd, CommittedWhereFree, FirstPartsLegal, LegalWhenWhole, OnlyCommitChanges, ReceiptEach, SerialAddsOne, SerialBegins, SerialGoesOn, SerialNeverBars, VetoedWhereNotFree};
 
@@ -231,46 +231,6 @@ pub fn legal_when_whole()
     ensures { LegalWhenWhole }
 {}
 
-/// A bank that pays before it clears the debt is vetoed.
-pub fn pays_first_case()
-    ensures { PaysFirst }
-{}
-
-/// A bank that clears the debt before it pays is approved.
-pub fn clears_first_case()
-    ensures { ClearsFirst }
-{}
-
-/// A callback that only the other order explains is approved.
-pub fn callback_first_case()
-    ensures { CallbackFirst }
-{}
-
-/// A cycle of three invocations and none of two is vetoed.
-pub fn three_in_a_ring_case()
-    ensures { ThreeInARing }
-{}
-
-/// A trace that is not together yet free is approved.
-pub fn apart_case()
-    ensures { ApartYetFree }
-{}
-
-/// Writes of equal values conflict.
-pub fn equal_values_case()
-    ensures { EqualValuesConflict }
-{}
-
-/// A method called internally does no harm.
-pub fn called_inside_case()
-    ensures { CalledInside }
-{}
-
-/// The same method called from outside is vetoed.
-pub fn called_outside_case()
-    ensures { CalledOutside }
-{}
-
 /// Two readers and then a writer are approved.
 pub fn two_readers_case()
     ensures { TwoReaders }
@@ -279,11 +239,6 @@ pub fn two_readers_case()
 /// The earlier of two readers counts too.
 pub fn first_reader_again_case()
     ensures { FirstReaderAgain }
-{}
-
-/// Two calls of one transaction are approved with their order.
-pub fn two_calls_case()
-    ensures { TwoCalls }
 {}
 
 /// Of two objects the least is named.
@@ -299,9 +254,4 @@ pub fn two_cycles_case()
 /// The least of those that cannot be placed need not be in the cycle.
 pub fn start_outside_case()
     ensures { StartOutside }
-{}
-
-/// A run that reverts is not judged.
-pub fn reverts_later_case()
-    ensures { RevertsLater }
 {}
