@@ -1,0 +1,2 @@
+//! Which texts are journals of transactions, as definitions in `specs/` that contracts cite.
+#![tactic(auto)]
