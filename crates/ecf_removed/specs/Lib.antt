@@ -1,2 +1,3 @@
-pub mod Held
-pub mod Removed
+pub mod Contents
+pub mod LoneRuns
+pub mod Laws

@@ -1,5 +1,16 @@
-use Rattle.ecf_removed.proofs.Together as proved
+use Rattle.ecf_removed.proofs.RemovalLaws as proved
 use Rattle.ecf_removed.proofs.callbacks_removed.Goals as goal
 
 pub returns : goal.returns
-returns c = proved.callbacks_removed
+returns c =
+    let laws = c.known_laws.ensures in
+    proved.callbacks_removed (record {
+      undone = laws.undone;
+      ends = laws.ends;
+      reads = laws.reads;
+      writes = laws.writes;
+      committed = laws.committed;
+      members = laws.members;
+      placed = laws.placed;
+      blocks = laws.blocks;
+    })

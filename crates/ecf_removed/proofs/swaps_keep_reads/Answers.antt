@@ -1,4 +1,4 @@
-use Rattle.ecf_removed.proofs.Swapping as proved
+use Rattle.ecf_removed.proofs.SwapLaws as proved
 use Rattle.ecf_removed.proofs.swaps_keep_reads.Goals as goal
 
 pub returns : goal.returns

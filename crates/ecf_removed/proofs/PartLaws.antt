@@ -11,10 +11,10 @@ use Rattle.ecf_lang.specs.declared.typed.Typed.{Typed}
 use Rattle.ecf_lang.specs.Store.{Store, set}
 use Rattle.ecf_lang.specs.Part.{State, Control, Done, Exit, RunsOut, Part, after, ◌>>=◌, ◌>>◌, pure, pay, read_cell, write_cell, note, with_change, with_charge, with_heard, with_read, value_now}
 use Rattle.ecf_lang.specs.Alone.{next_answer, hear, heard_count}
-use Rattle.ecf_laws.specs.Parts.{led}
+use Rattle.ecf_laws.specs.Parts.{end_state}
 use Rattle.ecf_verdicts.specs.Blocks.{block}
-use Rattle.ecf_removed.proofs.Pieces.{changed_same, changed_other, changed_long, block_own, block_other}
-use Rattle.ecf_removed.proofs.Echo as echo
+use Rattle.ecf_removed.proofs.StateLaws.{changed_same, changed_other, changed_long, block_own, block_other}
+use Rattle.ecf_removed.proofs.EchoLaws as echo
 
 -- a charge that is within what is left
 abbrev pub paid : ℕ → ℕ → State → State
@@ -163,7 +163,7 @@ module _ (typed : Typed) where
         let is : slice_get recorded (heard_count l) ≡ Some v = ap (λ n. slice_get recorded n) far ∙ ap (λ m. slice_get m (length before)) next ∙ get_next before v later in
         ap (λ o. hear o l) is
 
-    heard_at : (s : State) (r : Control ℕ) → i < length s.invocations → echo.Keeps None s (led r) → echo.AllPlay typed s r → echo.Goes typed fields recorded here i s (after r (λ v. note (with_heard v) i >> pure v)) (next_answer recorded)
+    heard_at : (s : State) (r : Control ℕ) → i < length s.invocations → echo.Keeps None s (end_state r) → echo.AllPlay typed s r → echo.Goes typed fields recorded here i s (after r (λ v. note (with_heard v) i >> pure v)) (next_answer recorded)
     heard_at s (Exit halt u) w keeps plays = record { keeps = echo.keeps_more (Some i) s u keeps; plays = tt; echo = tt }
     heard_at s (Done v u) w keeps plays =
         let same : slice_get u.invocations i ≡ slice_get s.invocations i = keeps.others i w (λ e. cc) in

@@ -1,16 +1,17 @@
 -- Loops of a run and of the run of its invocation alone: each turn is charged, so the own charge bounds the turns.
 use Rattle.std.proofs.Common.{◌≡◌, ℕ, zero, suc, ◌+◌, ◌<◌, ◌≤◌, Bool, true, false, List, [], ◌++◌, length, Some, refl, ap, ◌∙◌, arith}
 use Rattle.std.specs.Prelude.{nat_le}
+use Rattle.ecf_lang.specs.declared.costs.TheConstants.{TURN}
 use Rattle.ecf_lang.specs.declared.run.Step.{Step}
 use Rattle.ecf_lang.specs.declared.typed.Typed.{Typed}
 use Rattle.ecf_lang.specs.declared.typed.TypedExpr.{TypedExpr}
 use Rattle.ecf_lang.specs.Store.{Store}
 use Rattle.ecf_lang.specs.Part.{State, Control, Done, Exit, Part, after, ◌>>=◌, ◌>>◌, pure, pay}
 use Rattle.ecf_lang.specs.Meaning.{Opens, Frame, Flow, Continues, Returns, Action, go_on, value_of, at_zero, turns}
-use Rattle.ecf_laws.specs.Parts.{led}
-use Rattle.ecf_removed.proofs.Echo as echo
-use Rattle.ecf_laws.proofs.Frames as frames
-use Rattle.ecf_removed.proofs.Single as single
+use Rattle.ecf_laws.specs.Parts.{end_state}
+use Rattle.ecf_removed.proofs.EchoLaws as echo
+use Rattle.ecf_laws.specs.FrameLaws as frames
+use Rattle.ecf_removed.proofs.PartLaws as parts
 
 module _ (typed : Typed) (fields : Store) (recorded : List ℕ) (here i : ℕ) where
   -- where the part gave this value, the part alone, with more turns than was charged, gives it too
@@ -26,7 +27,7 @@ module _ (typed : Typed) (fields : Store) (recorded : List ℕ) (here i : ℕ) w
   EchoBy b s (Exit halt t) n = Unit {0}
 
   pub record GoesBy (b : ℕ) (s : State) {T : Type 0} (r : Control T) (n : ℕ → Part T) : Type 0 where
-    pub keeps : echo.Keeps (Some i) s (led r)
+    pub keeps : echo.Keeps (Some i) s (end_state r)
     pub plays : echo.AllPlay typed s r
     pub echo_by : EchoBy b s r n
 
@@ -61,40 +62,40 @@ module _ (typed : Typed) (fields : Store) (recorded : List ℕ) (here i : ℕ) w
   after_by b s (Done x u) n f g w e h k =
       let next : GoesBy b u (f x u) (λ turn. g turn x) = k x u (echo.within_later typed fields recorded here i s u h.keeps w) (h.keeps.empty e) in
       record {
-        keeps = echo.keeps_then (Some i) s u (led (f x u)) h.keeps next.keeps;
+        keeps = echo.keeps_then (Some i) s u (end_state (f x u)) h.keeps next.keeps;
         plays = echo.play_then typed (Some i) s u x (f x u) w h.plays next.keeps next.plays;
         echo_by = echo_then b s u x (f x u) n g h.echo next.echo_by;
       }
   after_by b s (Exit halt u) n f g w e h k = record { keeps = h.keeps; plays = tt; echo_by = tt }
 
   -- the charge of a turn gives one turn more
-  paid_echo : {T : Type 0} (s : State) (r : Control T) (n : ℕ → Part T) → EchoBy 0 (single.paid i 1 s) r n → EchoBy 1 s r (λ k. pay 0 1 >> n k)
+  paid_echo : {T : Type 0} (s : State) (r : Control T) (n : ℕ → Part T) → EchoBy 0 (parts.paid i TURN s) r n → EchoBy 1 s r (λ k. pay 0 TURN >> n k)
   paid_echo s (Exit halt t) n h = tt
   paid_echo s (Done y t) n h = record {
     steps = h.steps;
     answers = h.answers;
-    charge = 1 + h.charge;
-    grows = echo.grows_then typed fields recorded here i s (single.paid i 1 s) t [] h.steps [] h.answers 1 h.charge (single.grows_paid typed fields recorded here i 1 s) h.grows;
+    charge = TURN + h.charge;
+    grows = echo.grows_then typed fields recorded here i s (parts.paid i TURN s) t [] h.steps [] h.answers TURN h.charge (parts.grows_paid typed fields recorded here i TURN s) h.grows;
     lone = λ turn enough l r.
-        let some : 1 ≤ l.fuel = omega (arith, r.fuel) in
-        let last = h.lone turn (omega (arith, enough)) (single.paid 0 1 l) (echo.ready_last typed fields recorded here i l (single.paid 0 1 l) [] h.steps [] h.answers 1 h.charge r (single.follows_paid typed 1 l some)) in
-        (last.0, ap (λ q. after q (λ _. n turn)) (single.pay_gives 0 1 l some) ∙ last.1, echo.follows_then typed l (single.paid 0 1 l) last.0 [] h.steps [] h.answers 1 h.charge (single.follows_paid typed 1 l some) last.2);
+        let some : TURN ≤ l.fuel = omega (arith, r.fuel) in
+        let last = h.lone turn (omega (arith, enough)) (parts.paid 0 TURN l) (echo.ready_last typed fields recorded here i l (parts.paid 0 TURN l) [] h.steps [] h.answers TURN h.charge r (parts.follows_paid typed TURN l some)) in
+        (last.0, ap (λ q. after q (λ _. n turn)) (parts.pay_gives 0 TURN l some) ∙ last.1, echo.follows_then typed l (parts.paid 0 TURN l) last.0 [] h.steps [] h.answers TURN h.charge (parts.follows_paid typed TURN l some) last.2);
   }
 
-  paid_by : {T : Type 0} (s : State) (b : Bool) (m : Part T) (n : ℕ → Part T) → i < length s.invocations → echo.Empty s → AlikeBy 0 T m n → GoesBy 1 s (after (single.paying i 1 s b) (λ _. m)) (λ k. pay 0 1 >> n k)
+  paid_by : {T : Type 0} (s : State) (b : Bool) (m : Part T) (n : ℕ → Part T) → i < length s.invocations → echo.Empty s → AlikeBy 0 T m n → GoesBy 1 s (after (parts.paying i TURN s b) (λ _. m)) (λ k. pay 0 TURN >> n k)
   paid_by s true m n w e h =
-      let keeps : echo.Keeps (Some i) s (single.paid i 1 s) = single.keeps_paid typed i 1 s in
-      let next : GoesBy 0 (single.paid i 1 s) (m (single.paid i 1 s)) n = h (single.paid i 1 s) (echo.within_later typed fields recorded here i s (single.paid i 1 s) keeps w) (keeps.empty e) in
+      let keeps : echo.Keeps (Some i) s (parts.paid i TURN s) = parts.keeps_paid typed i TURN s in
+      let next : GoesBy 0 (parts.paid i TURN s) (m (parts.paid i TURN s)) n = h (parts.paid i TURN s) (echo.within_later typed fields recorded here i s (parts.paid i TURN s) keeps w) (keeps.empty e) in
       record {
-        keeps = echo.keeps_then (Some i) s (single.paid i 1 s) (led (m (single.paid i 1 s))) keeps next.keeps;
-        plays = echo.play_then typed {S = Unit {0}} (Some i) s (single.paid i 1 s) tt (m (single.paid i 1 s)) w (echo.none_play typed {T = Unit {0}} s (single.paid i 1 s) tt (single.paid_long i 1 s)) next.keeps next.plays;
-        echo_by = paid_echo s (m (single.paid i 1 s)) n next.echo_by;
+        keeps = echo.keeps_then (Some i) s (parts.paid i TURN s) (end_state (m (parts.paid i TURN s))) keeps next.keeps;
+        plays = echo.play_then typed {S = Unit {0}} (Some i) s (parts.paid i TURN s) tt (m (parts.paid i TURN s)) w (echo.none_play typed {T = Unit {0}} s (parts.paid i TURN s) tt (parts.paid_long i TURN s)) next.keeps next.plays;
+        echo_by = paid_echo s (m (parts.paid i TURN s)) n next.echo_by;
       }
   paid_by s false m n w e h = record { keeps = record { longer = omega arith; others = λ k h a. refl; blocks = λ k h a. refl; empty = λ h. h }; plays = tt; echo_by = tt }
 
-  pay_by : {T : Type 0} (m : Part T) (n : ℕ → Part T) → AlikeBy 0 T m n → AlikeBy 1 T (pay i 1 >> m) (λ k. pay 0 1 >> n k)
+  pay_by : {T : Type 0} (m : Part T) (n : ℕ → Part T) → AlikeBy 0 T m n → AlikeBy 1 T (pay i TURN >> m) (λ k. pay 0 TURN >> n k)
   unfolding pay
-  pay_by m n h s w e = paid_by s (nat_le 1 s.fuel) m n w e h
+  pay_by m n h s w e = paid_by s (nat_le TURN s.fuel) m n w e h
 
   -- one turn more is enough for one turn less
   down_echo : {T : Type 0} (s : State) (r : Control T) (n : ℕ → Part T) → EchoBy 1 s r (λ k. n (suc k)) → EchoBy 0 s r n
@@ -131,10 +132,10 @@ module _ (typed : Typed) (fields : Store) (recorded : List ℕ) (here i : ℕ) w
       turns_by (suc n) locals = λ s w empty.
           down_by s (turns store f (suc n) cond d locals s) (λ k. turns fields g k cond e locals)
           (after_by 1 s (value_of store f locals cond s) (value_of fields g locals cond)
-          (λ x. at_zero x (pure (Continues locals)) (pay i 1 >> (d locals >>= (λ flow. go_on flow (turns store f n cond d)))))
-          (λ k x. at_zero x (pure (Continues locals)) (pay 0 1 >> (e locals >>= (λ flow. go_on flow (turns fields g k cond e)))))
+          (λ x. at_zero x (pure (Continues locals)) (pay i TURN >> (d locals >>= (λ flow. go_on flow (turns store f n cond d)))))
+          (λ k x. at_zero x (pure (Continues locals)) (pay 0 TURN >> (e locals >>= (λ flow. go_on flow (turns fields g k cond e)))))
           w empty (conds locals s w empty)
-          (λ x. zero_by 1 x (pure (Continues locals)) (pure (Continues locals)) (pay i 1 >> (d locals >>= (λ flow. go_on flow (turns store f n cond d)))) (λ k. pay 0 1 >> (e locals >>= (λ flow. go_on flow (turns fields g k cond e))))
+          (λ x. zero_by 1 x (pure (Continues locals)) (pure (Continues locals)) (pay i TURN >> (d locals >>= (λ flow. go_on flow (turns store f n cond d)))) (λ k. pay 0 TURN >> (e locals >>= (λ flow. go_on flow (turns fields g k cond e))))
           (λ u v y. any_by 1 u (Done (Continues locals) u) (pure (Continues locals)) (echo.pure_goes typed fields recorded here i (Continues locals) u))
           (pay_by (d locals >>= (λ flow. go_on flow (turns store f n cond d))) (λ k. e locals >>= (λ flow. go_on flow (turns fields g k cond e)))
           (λ u v y. after_by 0 u (d locals u) (e locals) (λ flow. go_on flow (turns store f n cond d)) (λ k flow. go_on flow (turns fields g k cond e)) v y (bodies locals u v y) (on_by n (turns_by n))))))
@@ -148,13 +149,13 @@ module _ (typed : Typed) (fields : Store) (recorded : List ℕ) (here i : ℕ) w
           let h : GoesBy 0 s (turns store f (suc s.fuel) cond d locals s) (λ k. turns fields g k cond e locals) = turns_by (suc s.fuel) locals s w empty in
           record { keeps = h.keeps; plays = h.plays; echo = own_echo s (turns store f (suc s.fuel) cond d locals s) locals h.echo_by }
 
-  pub closed : (store : Store) → frames.Closed store fields here i 0 (echo.Alike typed fields recorded here i)
+  pub closed : (store : Store) → frames.IsClosed store fields here i 0 (echo.Alike typed fields recorded here i)
   closed store = record {
     pures = λ x s w e. echo.pure_goes typed fields recorded here i x s;
     reverts = λ cause s w e. echo.revert_goes typed fields recorded here i cause s;
     binds = λ {m = m} {n = n} {f = f} {g = g} h k s w e. echo.after_goes typed fields recorded here i s (m s) n f g w e (h s w e) k;
-    pays = single.pay_goes typed fields recorded here i;
-    reads = single.read_goes typed fields recorded here i store;
-    writes = single.write_goes typed fields recorded here i;
+    pays = parts.pay_goes typed fields recorded here i;
+    reads = parts.read_goes typed fields recorded here i store;
+    writes = parts.write_goes typed fields recorded here i;
     loops = λ p q cond d e conds bodies locals. loop_goes store p q cond d e conds bodies locals;
   }

@@ -5,9 +5,9 @@ use Rattle.ecf_lang.specs.declared.cell.Cell.{Cell}
 use Rattle.ecf_lang.specs.declared.run.Step.{Step}
 use Rattle.ecf_verdicts.specs.Conflicts.{conflicts, same_cell}
 use Rattle.ecf_verdicts.specs.Swaps.{may_swap}
-use Rattle.ecf_verdicts.specs.SwapLemmas.{swaps_keep, no_conflict, eqb_sym}
-use Rattle.ecf_verdicts.specs.SwapLemmas.{may_swap_sym, other_inv, same_cell_parts}
-use Rattle.ecf_removed.specs.Held.{Held, held_after, held_after_all, ReadsGive, SwapsKeepReads, SwapsKeepEnds}
+use Rattle.ecf_verdicts.specs.SwapLemmas.{swaps_keep, no_conflict, may_swap_sym, other_inv, same_cell_parts}
+use Rattle.ecf_removed.specs.Contents.{Contents, contents_after, contents_after_all, ReadsGive}
+use Rattle.ecf_removed.specs.Laws.{SwapsKeepReads, SwapsKeepEnds}
 
 pub same_cell_is : (a b : Cell) → same_cell a b ≡ true → a ≡ b
 same_cell_is a b e = let p = same_cell_parts a b e in λ i. record { object = p.0 i; field = p.1 i; key = p.2 i }
@@ -15,10 +15,6 @@ same_cell_is a b e = let p = same_cell_parts a b e in λ i. record { object = p.
 pub same_cell_self : (a : Cell) → same_cell a a ≡ true
 unfolding same_cell
 same_cell_self a = and_from _ _ (eq-eqb a.object a.object refl) (and_from _ _ (eq-eqb a.field a.field refl) (eq-eqb a.key a.key refl))
-
-pub same_cell_sym : (a b : Cell) → same_cell a b ≡ same_cell b a
-unfolding same_cell
-same_cell_sym a b = rw (eqb_sym a.object b.object, eqb_sym a.field b.field, eqb_sym a.key b.key) refl
 
 -- a write of a step and a step on its cell of another invocation conflict
 clash : (a b : Step) → (a.inv ≡ b.inv → ⊥) → same_cell a.cell b.cell ≡ true → (a.write || b.write) ≡ true → conflicts a b ≡ true
@@ -42,29 +38,29 @@ chosen_either true true x y z h = absurd (h refl refl)
 chosen_either true false x y z h = refl
 chosen_either false q x y z h = refl
 
-pub after_both : (a b : Step) (held : Held) → may_swap a b ≡ true → held_after b (held_after a held) ≡ held_after a (held_after b held)
-after_both a b held m = λ i cell. chosen_either (a.write && same_cell a.cell cell) (b.write && same_cell b.cell cell) a.value b.value (held cell) (not_both a b cell m) i
+pub after_both : (a b : Step) (contents : Contents) → may_swap a b ≡ true → contents_after b (contents_after a contents) ≡ contents_after a (contents_after b contents)
+after_both a b contents m = λ i cell. chosen_either (a.write && same_cell a.cell cell) (b.write && same_cell b.cell cell) a.value b.value (contents cell) (not_both a b cell m) i
 
-reads_here : (a b : Step) (rest : List Step) → may_swap a b ≡ true → (held : Held) → ReadsGive held (a ∷ b ∷ rest) → ReadsGive held (b ∷ a ∷ rest)
-reads_here a b rest m held h =
-    let first : held_after a held b.cell ≡ held b.cell = ap (λ t. cond t a.value (held b.cell)) (quiet a b m) in
-    let second : held_after b held a.cell ≡ held a.cell = ap (λ t. cond t b.value (held a.cell)) (quiet b a (sym (may_swap_sym a b) ∙ m)) in (
+reads_here : (a b : Step) (rest : List Step) → may_swap a b ≡ true → (contents : Contents) → ReadsGive contents (a ∷ b ∷ rest) → ReadsGive contents (b ∷ a ∷ rest)
+reads_here a b rest m contents h =
+    let first : contents_after a contents b.cell ≡ contents b.cell = ap (λ t. cond t a.value (contents b.cell)) (quiet a b m) in
+    let second : contents_after b contents a.cell ≡ contents a.cell = ap (λ t. cond t b.value (contents a.cell)) (quiet b a (sym (may_swap_sym a b) ∙ m)) in (
       λ is. h.1.0 is ∙ first,
-      (λ is. h.0 is ∙ sym second, subst (λ k. ReadsGive k rest) (after_both a b held m) h.1.1),
+      (λ is. h.0 is ∙ sym second, subst (λ k. ReadsGive k rest) (after_both a b contents m) h.1.1),
     )
 
 pub swaps_keep_reads : SwapsKeepReads
-swaps_keep_reads t places u e = swaps_keep (λ t u. (held : Held) → ReadsGive held t → ReadsGive held u)
-    (λ a b rest m held h. reads_here a b rest m held h)
-    (λ a t u k held h. (h.0, k (held_after a held) h.1))
-    (λ t held h. h)
-    (λ t u v h k held r. k held (h held r))
+swaps_keep_reads t places u e = swaps_keep (λ t u. (contents : Contents) → ReadsGive contents t → ReadsGive contents u)
+    (λ a b rest m contents h. reads_here a b rest m contents h)
+    (λ a t u k contents h. (h.0, k (contents_after a contents) h.1))
+    (λ t contents h. h)
+    (λ t u v h k contents r. k contents (h contents r))
     places t u e
 
 pub swaps_keep_ends : SwapsKeepEnds
-swaps_keep_ends t places u e = swaps_keep (λ t u. (held : Held) → held_after_all u held ≡ held_after_all t held)
-    (λ a b rest m held. ap (held_after_all rest) (sym (after_both a b held m)))
-    (λ a t u k held. k (held_after a held))
-    (λ t held. refl)
-    (λ t u v h k held. k held ∙ h held)
+swaps_keep_ends t places u e = swaps_keep (λ t u. (contents : Contents) → contents_after_all u contents ≡ contents_after_all t contents)
+    (λ a b rest m contents. ap (contents_after_all rest) (sym (after_both a b contents m)))
+    (λ a t u k contents. k (contents_after a contents))
+    (λ t contents. refl)
+    (λ t u v h k contents. k contents ∙ h contents)
     places t u e

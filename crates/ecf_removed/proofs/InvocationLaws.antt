@@ -1,8 +1,9 @@
 -- Each invocation of a run, and the run of it alone.
-use Rattle.std.proofs.Common.{◌≡◌, ℕ, zero, suc, ◌+◌, ◌<◌, ◌≤◌, Bool, true, false, cond, ◌==◌, List, [], ◌∷◌, ◌++◌, map, length, Option, Some, None, inl, inr, refl, ap, sym, subst, ◌∙◌, arith}
+use Rattle.std.proofs.Common.{◌≡◌, ℕ, zero, suc, ◌+◌, ◌-◌, ◌<◌, ◌≤◌, Bool, true, false, cond, ◌==◌, List, [], ◌∷◌, ◌++◌, map, length, Option, Some, None, inl, inr, refl, ap, sym, subst, ◌∙◌, arith}
 use Rattle.std.specs.Prelude.{IsSome, if◌then◌else◌, nat_lt, slice_get}
 use Rattle.std.proofs.lemmas.Bool.{cases_lt, eqb-true}
 use Rattle.std.proofs.lemmas.List.{append-nil, length-append}
+use Rattle.ecf_lang.specs.declared.limits.TheConstants.{MAX_FRAMES, MAX_INVOCATIONS}
 use Rattle.ecf_lang.specs.declared.run.Cause.TheVariants.{Depth, Calls}
 use Rattle.ecf_lang.specs.declared.run.Outcome.TheVariants.{Answer}
 use Rattle.ecf_lang.specs.declared.run.Step.{Step}
@@ -16,17 +17,17 @@ use Rattle.ecf_lang.specs.Store.{Store, Cells, with_writes}
 use Rattle.ecf_lang.specs.Part.{State, Control, Done, Exit, Reverts, RunsOut, Part, after, ◌>>◌, pure, revert, note, with_change, with_answer, attempt_of}
 use Rattle.ecf_lang.specs.Meaning.{Ways, opens_of, frame_of, body_of, invoke, checked_call, ways, calls_of, initial_state, result_of, run}
 use Rattle.ecf_lang.specs.Alone.{of_invocation, lone_frame, inside, by_itself, lone_of, alone}
-use Rattle.ecf_laws.specs.Parts.{led}
+use Rattle.ecf_laws.specs.Parts.{end_state}
 use Rattle.ecf_laws.specs.Replay.{after_steps, AreSeen}
-use Rattle.ecf_laws.proofs.Options.{some_is}
+use Rattle.std.proofs.lemmas.Option.{same_Some}
 use Rattle.ecf_verdicts.specs.ListLemmas.{Each}
 use Rattle.ecf_verdicts.specs.Blocks.{block}
-use Rattle.ecf_removed.specs.Removed.{DoesAlone}
-use Rattle.ecf_removed.proofs.Pieces.{get_old, get_new, changed_same, changed_other, changed_long}
-use Rattle.ecf_removed.proofs.Echo as echo
-use Rattle.ecf_laws.proofs.Frames as frames
-use Rattle.ecf_removed.proofs.Loops as loops
-use Rattle.ecf_removed.proofs.Single as single
+use Rattle.ecf_removed.specs.LoneRuns.{RepeatsAlone}
+use Rattle.ecf_removed.proofs.StateLaws.{get_old, get_new, changed_same, changed_other, changed_long}
+use Rattle.ecf_removed.proofs.EchoLaws as echo
+use Rattle.ecf_laws.specs.FrameLaws as frames
+use Rattle.ecf_removed.proofs.LoopLaws as loops
+use Rattle.ecf_removed.proofs.PartLaws as parts
 
 -- the steps of an invocation, under another number and back
 block_back : (steps : List Step) (inv : ℕ) → map (of_invocation inv) (map (of_invocation 0) (block steps inv)) ≡ block steps inv
@@ -36,6 +37,10 @@ block_back (step ∷ steps) inv = by (step.inv == inv) refl (block_back steps in
     by : (b : Bool) → (step.inv == inv) ≡ b → map (of_invocation inv) (map (of_invocation 0) (block steps inv)) ≡ block steps inv → map (of_invocation inv) (map (of_invocation 0) (cond b (step ∷ block steps inv) (block steps inv))) ≡ cond b (step ∷ block steps inv) (block steps inv)
     by true is h = λ i. (record step { inv = sym (eqb-true step.inv inv is) i }) ∷ h i
     by false is h = h
+
+-- how many more frames may be open under an invocation's first
+abbrev deepest : ℕ
+deepest = MAX_FRAMES - 1
 
 module _ (typed : Typed) where
   inside_more : (fields : Store) (one : Invocation) (room name : ℕ) (args : List ℕ) → inside typed fields one (suc room) name args ≡ body_of fields (lone_frame typed fields one (inside typed fields one room)) (method_at typed one.object name) args
@@ -57,8 +62,8 @@ module _ (typed : Typed) where
     opens_go : (room : ℕ) (v : Ways) → WaysGo room v → (fields : Store) (one : Invocation) (i more : ℕ) → room ≤ more → frames.OpensAlike (echo.Alike typed fields one.answers one.object i) (opens_of v one.object i) (lone_frame typed fields one (inside typed fields one more)).opens
     opens_go room v h fields one i more enough = record {
       internal = λ name args. h.within fields one i more enough name args;
-      external = λ to name args. single.call_goes typed fields one.answers one.object i (v.anew to name args) (h.anew to name args);
-      attempt = λ to name args. single.call_goes typed fields one.answers one.object i (attempt_of (v.anew to name args)) (echo.tried_anew typed (v.anew to name args) (h.anew to name args));
+      external = λ to name args. parts.call_goes typed fields one.answers one.object i (v.anew to name args) (h.anew to name args);
+      attempt = λ to name args. parts.call_goes typed fields one.answers one.object i (attempt_of (v.anew to name args)) (echo.tried_anew typed (v.anew to name args) (h.anew to name args));
     }
 
     body_goes : (room : ℕ) (v : Ways) → WaysGo room v → (fields : Store) (one : Invocation) (i more : ℕ) → room ≤ more → (method : Option TypedMethod) (args : List ℕ) → echo.Alike typed fields one.answers one.object i ℕ (body_of store (frame_of typed store v one.object i) method args) (body_of fields (lone_frame typed fields one (inside typed fields one more)) method args)
@@ -92,7 +97,7 @@ module _ (typed : Typed) where
     }
       where
         not_new : (k : ℕ) → k < length s.invocations → Some (length s.invocations) ≡ Some k → ⊥
-        not_new k below e = omega (arith, below, some_is e)
+        not_new k below e = omega (arith, below, same_Some _ _ e)
 
     keeps_answered : (s u : State) (v : ℕ) → echo.Keeps None s u → echo.Keeps None s (record u { invocations = with_change (with_answer v) u.invocations (length s.invocations) })
     keeps_answered s u v h = record {
@@ -103,7 +108,7 @@ module _ (typed : Typed) where
     }
 
     -- an invocation that answered plays
-    module _ (room : ℕ) (v : Ways) (h : WaysGo room v) (few : room ≤ 63) (to name : ℕ) (args : List ℕ) (method : TypedMethod) (there : method_at typed to name ≡ Some method) (s : State) (empty : echo.Empty s) where
+    module _ (room : ℕ) (v : Ways) (h : WaysGo room v) (few : room < MAX_FRAMES) (to name : ℕ) (args : List ℕ) (method : TypedMethod) (there : method_at typed to name ≡ Some method) (s : State) (empty : echo.Empty s) where
       abbrev inv : ℕ
       inv = length s.invocations
 
@@ -116,15 +121,15 @@ module _ (typed : Typed) where
       abbrev recorded : ℕ → List ℕ → ℕ → Invocation
       recorded x answers charge = record { object = to; method = name; args = args; answer = Some x; answers = answers; own_fuel = charge; undone = false }
 
-      goes : (fields : Store) (x : ℕ) (answers : List ℕ) (charge : ℕ) → echo.Goes typed fields answers to inv start body (body_of fields (lone_frame typed fields (recorded x answers charge) (inside typed fields (recorded x answers charge) 63)) (Some method) args)
-      goes fields x answers charge = body_goes room v h fields (recorded x answers charge) inv 63 few (Some method) args start (omega (arith, opened_long s (opened to name args))) ((keeps_opened s (opened to name args)).empty empty)
+      goes : (fields : Store) (x : ℕ) (answers : List ℕ) (charge : ℕ) → echo.Goes typed fields answers to inv start body (body_of fields (lone_frame typed fields (recorded x answers charge) (inside typed fields (recorded x answers charge) deepest)) (Some method) args)
+      goes fields x answers charge = body_goes room v h fields (recorded x answers charge) inv deepest (omega (arith, few)) (Some method) args start (omega (arith, opened_long s (opened to name args))) ((keeps_opened s (opened to name args)).empty empty)
 
       module _ (x : ℕ) (u : State) (is : body ≡ Done x u) where
         -- what the body added, as some run alone says it
-        added : (fields : Store) (answers : List ℕ) (charge : ℕ) → echo.Echoed typed fields answers to inv start u x (body_of fields (lone_frame typed fields (recorded x answers charge) (inside typed fields (recorded x answers charge) 63)) (Some method) args)
-        added fields answers charge = subst (λ r. echo.Echo typed fields answers to inv start r (body_of fields (lone_frame typed fields (recorded x answers charge) (inside typed fields (recorded x answers charge) 63)) (Some method) args)) is (goes fields x answers charge).echo
+        added : (fields : Store) (answers : List ℕ) (charge : ℕ) → echo.Echoed typed fields answers to inv start u x (body_of fields (lone_frame typed fields (recorded x answers charge) (inside typed fields (recorded x answers charge) deepest)) (Some method) args)
+        added fields answers charge = subst (λ r. echo.Echo typed fields answers to inv start r (body_of fields (lone_frame typed fields (recorded x answers charge) (inside typed fields (recorded x answers charge) deepest)) (Some method) args)) is (goes fields x answers charge).echo
 
-        abbrev first : echo.Echoed typed store [] to inv start u x (body_of store (lone_frame typed store (recorded x [] 0) (inside typed store (recorded x [] 0) 63)) (Some method) args)
+        abbrev first : echo.Echoed typed store [] to inv start u x (body_of store (lone_frame typed store (recorded x [] 0) (inside typed store (recorded x [] 0) deepest)) (Some method) args)
         first = added store [] 0
 
         abbrev one : Invocation
@@ -140,17 +145,17 @@ module _ (typed : Typed) where
         same_one : (fields : Store) (answers : List ℕ) (charge : ℕ) → echo.grown typed (added fields answers charge).answers (added fields answers charge).charge (opened to name args) ≡ echo.grown typed first.answers first.charge (opened to name args)
         same_one fields answers charge =
             let new : slice_get start.invocations inv ≡ Some (opened to name args) = get_new s.invocations (opened to name args) in
-            some_is (sym ((added fields answers charge).grows.one_grown (opened to name args) new) ∙ first.grows.one_grown (opened to name args) new)
+            same_Some _ _ (sym ((added fields answers charge).grows.one_grown (opened to name args) new) ∙ first.grows.one_grown (opened to name args) new)
 
         abbrev lone : Store → Part ℕ
-        lone fields = body_of fields (lone_frame typed fields one (inside typed fields one 63)) (Some method) args
+        lone fields = body_of fields (lone_frame typed fields one (inside typed fields one deepest)) (Some method) args
 
         -- the run alone as its body begins
         abbrev lone_start : State
         lone_start = with_opened (initial_state one.own_fuel) (opened to name args)
 
         whole_lone : (fields : Store) → by_itself typed fields one (initial_state one.own_fuel) ≡ lone fields lone_start
-        whole_lone fields = ap (λ (m : Part ℕ). m lone_start) (inside_more fields one 63 name args ∙ ap (λ o. body_of fields (lone_frame typed fields one (inside typed fields one 63)) o args) there)
+        whole_lone fields = ap (λ (m : Part ℕ). m lone_start) (inside_more fields one deepest name args ∙ ap (λ o. body_of fields (lone_frame typed fields one (inside typed fields one deepest)) o args) there)
 
         ready : (fields : Store) → AreSeen fields [] (block u.steps inv) → echo.Ready typed fields first.answers to inv lone_start (added fields first.answers first.charge).steps (added fields first.answers first.charge).answers (added fields first.answers first.charge).charge
         ready fields seen =
@@ -165,14 +170,14 @@ module _ (typed : Typed) where
               next = sym (ap (λ (o : Invocation). o.answers) same) ∙ sym (append-nil (added fields first.answers first.charge).answers);
             }
 
-        does : (fields : Store) → AreSeen fields [] (block u.steps inv) → DoesAlone typed inv one (block u.steps inv) fields
+        does : (fields : Store) → AreSeen fields [] (block u.steps inv) → RepeatsAlone typed inv one (block u.steps inv) fields
         does fields seen =
             let h = added fields first.answers first.charge in
             let end = h.lone lone_start (ready fields seen) in
             let steps : h.steps ≡ block u.steps inv = same_steps fields first.answers first.charge in
             record {
               value = x;
-              answered = refl;
+              answer = refl;
               same = alone_is inv one fields x end.0 (after_steps [] (block u.steps inv)) (block u.steps inv)
                   (whole_lone fields ∙ end.1)
                   (end.2.written ∙ ap (after_steps []) steps)
@@ -192,31 +197,31 @@ module _ (typed : Typed) where
       answer : ℕ → Part ℕ
       answer x = note (with_answer x) inv >> pure x
 
-      -- what of it all is kept and played, from where the body led
-      opened_goes : (r : Control ℕ) → body ≡ r → echo.Keeps None s (led (after r (λ x. note (with_answer x) inv >> pure x))) × echo.AllPlay typed s (after r (λ x. note (with_answer x) inv >> pure x))
-      opened_goes (Exit halt u) is = (keeps_outside s u (opened to name args) (subst (λ r. echo.Keeps (Some inv) start (led r)) is (goes store 0 [] 0).keeps), tt)
+      -- what of it all is kept and played, from where the body end_state
+      opened_goes : (r : Control ℕ) → body ≡ r → echo.Keeps None s (end_state (after r (λ x. note (with_answer x) inv >> pure x))) × echo.AllPlay typed s (after r (λ x. note (with_answer x) inv >> pure x))
+      opened_goes (Exit halt u) is = (keeps_outside s u (opened to name args) (subst (λ r. echo.Keeps (Some inv) start (end_state r)) is (goes store 0 [] 0).keeps), tt)
       opened_goes (Done x u) is =
-          let kept : echo.Keeps (Some inv) start u = subst (λ r. echo.Keeps (Some inv) start (led r)) is (goes store 0 [] 0).keeps in
+          let kept : echo.Keeps (Some inv) start u = subst (λ r. echo.Keeps (Some inv) start (end_state r)) is (goes store 0 [] 0).keeps in
           let later : echo.AllPlay typed start (Done x u) = subst (echo.AllPlay typed start) is (goes store 0 [] 0).plays in (
             keeps_answered s u x (keeps_outside s u (opened to name args) kept),
             λ k new other at stands. elim (cases_lt inv k) [
               | inl above ↦ later k (omega (arith, above, opened_long s (opened to name args))) other (sym (changed_other (with_answer x) u.invocations inv k (λ e. omega (arith, above, e))) ∙ at) stands
               | inr least ↦
                   let same : k ≡ inv = omega (arith, new, least) in
-                  let this : one x u is ≡ other = some_is (sym (at_end x u is) ∙ ap (λ n. slice_get (with_change (with_answer x) u.invocations inv) n) (sym same) ∙ at) in
+                  let this : one x u is ≡ other = same_Some _ _ (sym (at_end x u is) ∙ ap (λ n. slice_get (with_change (with_answer x) u.invocations inv) n) (sym same) ∙ at) in
                   subst (λ n. echo.Plays typed n other (block u.steps n)) (sym same) (subst (λ o. echo.Plays typed inv o (block u.steps inv)) this (plays_one x u is))
             ],
           )
 
-    invoke_anew : (room : ℕ) (v : Ways) → WaysGo room v → room ≤ 63 → (to name : ℕ) (args : List ℕ) (method : Option TypedMethod) → method_at typed to name ≡ method → echo.Anew typed (invoke typed store v to method name args)
+    invoke_anew : (room : ℕ) (v : Ways) → WaysGo room v → room < MAX_FRAMES → (to name : ℕ) (args : List ℕ) (method : Option TypedMethod) → method_at typed to name ≡ method → echo.Anew typed (invoke typed store v to method name args)
     invoke_anew room v h few to name args None there = λ s e. (echo.keeps_same None s, tt)
     invoke_anew room v h few to name args (Some method) there = λ s e. opened_goes room v h few to name args method there s e (body room v h few to name args method there s e) refl
 
-    tested_anew : (room : ℕ) (v : Ways) → WaysGo room v → room ≤ 63 → (to name : ℕ) (args : List ℕ) → echo.Anew typed (checked_call typed store v to name args)
-    tested_anew room v h few to name args s e = by (nat_lt (length s.invocations) 1024) (invoke_anew room v h few to name args (method_at typed to name) refl s e)
+    tested_anew : (room : ℕ) (v : Ways) → WaysGo room v → room < MAX_FRAMES → (to name : ℕ) (args : List ℕ) → echo.Anew typed (checked_call typed store v to name args)
+    tested_anew room v h few to name args s e = by (nat_lt (length s.invocations) MAX_INVOCATIONS) (invoke_anew room v h few to name args (method_at typed to name) refl s e)
       where
         Goes : Control ℕ → Type 0
-        Goes r = echo.Keeps None s (led r) × echo.AllPlay typed s r
+        Goes r = echo.Keeps None s (end_state r) × echo.AllPlay typed s r
 
         by : (b : Bool) → Goes (invoke typed store v to (method_at typed to name) name args s) → Goes ((if b then invoke typed store v to (method_at typed to name) name args else revert Calls) s)
         by true i = i
@@ -226,7 +231,7 @@ module _ (typed : Typed) where
     deeper_within room v h fields one i zero enough name args = absurd (omega (arith, enough))
     deeper_within room v h fields one i (suc more) enough name args = subst (echo.Alike typed fields one.answers one.object i ℕ (body_of store (frame_of typed store v one.object i) (method_at typed one.object name) args)) (sym (inside_more fields one more name args)) (body_goes room v h fields one i more (omega (arith, enough)) (method_at typed one.object name) args)
 
-    ways_go : (room : ℕ) → room ≤ 64 → WaysGo room (ways typed store room)
+    ways_go : (room : ℕ) → room ≤ MAX_FRAMES → WaysGo room (ways typed store room)
     unfolding ways
     ways_go zero few = record { within = λ fields one i more enough name args s w e. halted fields one i more name args s; anew = λ to name args s e. (echo.keeps_same None s, tt) }
       where
@@ -242,16 +247,16 @@ module _ (typed : Typed) where
     anew_then : (m n : Part ℕ) → echo.Anew typed m → echo.Anew typed n → echo.Anew typed (m >> n)
     anew_then m n h k s e = by (m s) (h s e).0 (h s e).1
       where
-        by : (r : Control ℕ) → echo.Keeps None s (led r) → echo.AllPlay typed s r → echo.Keeps None s (led (after r (λ _. n))) × echo.AllPlay typed s (after r (λ _. n))
+        by : (r : Control ℕ) → echo.Keeps None s (end_state r) → echo.AllPlay typed s r → echo.Keeps None s (end_state (after r (λ _. n))) × echo.AllPlay typed s (after r (λ _. n))
         by (Exit halt u) keeps plays = (keeps, tt)
         by (Done x u) keeps plays =
             let next = k u (keeps.empty e) in
-            (echo.keeps_then None s u (led (n u)) keeps next.0, echo.play_then typed None s u x (n u) tt plays next.0 next.1)
+            (echo.keeps_then None s u (end_state (n u)) keeps next.0, echo.play_then typed None s u x (n u) tt plays next.0 next.1)
 
     calls_go : (calls : List TxCall) → echo.Anew typed (calls_of typed store calls)
     calls_go [] = λ s e. (echo.keeps_same None s, echo.none_play typed {T = ℕ} s s 0 (omega arith))
-    calls_go (call ∷ []) = (ways_go 64 (omega arith)).anew call.object call.method call.args
-    calls_go (call ∷ next ∷ calls) = anew_then ((ways typed store 64).anew call.object call.method call.args) (calls_of typed store (next ∷ calls)) ((ways_go 64 (omega arith)).anew call.object call.method call.args) (calls_go (next ∷ calls))
+    calls_go (call ∷ []) = (ways_go MAX_FRAMES (omega arith)).anew call.object call.method call.args
+    calls_go (call ∷ next ∷ calls) = anew_then ((ways typed store MAX_FRAMES).anew call.object call.method call.args) (calls_of typed store (next ∷ calls)) ((ways_go MAX_FRAMES (omega arith)).anew call.object call.method call.args) (calls_go (next ∷ calls))
 
     ran_plays : (limit : ℕ) (r : Control ℕ) (value : ℕ) → echo.AllPlay typed (initial_state limit) r → (result_of store limit r).outcome ≡ Answer value → (k : ℕ) (one : Invocation) → slice_get (result_of store limit r).invocations k ≡ Some one → one.undone ≡ false → echo.Plays typed k one (block (result_of store limit r).steps k)
     ran_plays limit (Done x t) value h is k one at stands = h k (omega arith) one at stands

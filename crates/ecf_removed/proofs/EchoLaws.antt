@@ -12,12 +12,12 @@ use Rattle.ecf_lang.specs.Fits.{method_at}
 use Rattle.ecf_lang.specs.Store.{Store}
 use Rattle.ecf_lang.specs.Part.{State, Control, Done, Exit, Reverts, RunsOut, Part, after, ◌>>=◌, pure, revert, attempt_of, as_undone}
 use Rattle.ecf_lang.specs.Alone.{of_invocation}
-use Rattle.ecf_laws.specs.Parts.{led}
+use Rattle.ecf_laws.specs.Parts.{end_state}
 use Rattle.ecf_laws.specs.Replay.{after_steps, AreSeen}
 use Rattle.ecf_verdicts.specs.ListLemmas.{Each}
 use Rattle.ecf_verdicts.specs.Blocks.{block}
-use Rattle.ecf_removed.specs.Removed.{DoesAlone}
-use Rattle.ecf_removed.proofs.Pieces.{get_taken, back_undone, back_long, after_steps-append, seen_first, seen_last}
+use Rattle.ecf_removed.specs.LoneRuns.{RepeatsAlone}
+use Rattle.ecf_removed.proofs.StateLaws.{get_taken, back_undone, back_long, after_steps-append, seen_first, seen_last}
 
 -- no step is of an invocation that isn't there
 abbrev pub Empty : State → Type 0
@@ -65,14 +65,14 @@ module _ (typed : Typed) where
   pub record Plays (inv : ℕ) (one : Invocation) (steps : List Step) : Type 0 where
     pub has_method : IsSome (method_at typed one.object one.method)
     pub own : Each (λ step. step.cell.object ≡ one.object) steps
-    pub does : (fields : Store) → AreSeen fields [] steps → DoesAlone typed inv one steps fields
+    pub does : (fields : Store) → AreSeen fields [] steps → RepeatsAlone typed inv one steps fields
 
   -- each invocation that is there since, and wasn't undone, plays
   abbrev pub AllPlay : {T : Type 0} → State → Control T → Type 0
   AllPlay s (Done x t) = (k : ℕ) → length s.invocations ≤ k → (one : Invocation) → slice_get t.invocations k ≡ Some one → one.undone ≡ false → Plays k one (block t.steps k)
   AllPlay s (Exit halt t) = Unit {0}
 
-  pub play_then : {S T : Type 0} (o : Option ℕ) (s u : State) (x : S) (r : Control T) → Within o s → AllPlay s (Done x u) → Keeps o u (led r) → AllPlay u r → AllPlay s r
+  pub play_then : {S T : Type 0} (o : Option ℕ) (s u : State) (x : S) (r : Control T) → Within o s → AllPlay s (Done x u) → Keeps o u (end_state r) → AllPlay u r → AllPlay s r
   play_then o s u x (Exit halt t) within first keeps last = tt
   play_then o s u x (Done y t) within first keeps last = λ k new one is stands. elim (cases_lt k (length u.invocations)) [
     | inl below ↦
@@ -92,9 +92,9 @@ module _ (typed : Typed) where
 
   -- a part that is in no invocation
   abbrev pub Anew : Part ℕ → Type 0
-  Anew part = (s : State) → Empty s → Keeps None s (led (part s)) × AllPlay s (part s)
+  Anew part = (s : State) → Empty s → Keeps None s (end_state (part s)) × AllPlay s (part s)
 
-  caught_anew : (s : State) (r : Control ℕ) → Empty s → Keeps None s (led r) → AllPlay s r → Keeps None s (led (attempt_of (λ _. r) s)) × AllPlay s (attempt_of (λ _. r) s)
+  caught_anew : (s : State) (r : Control ℕ) → Empty s → Keeps None s (end_state r) → AllPlay s r → Keeps None s (end_state (attempt_of (λ _. r) s)) × AllPlay s (attempt_of (λ _. r) s)
   unfolding attempt_of
   caught_anew s (Done x t) e h k = (h, k)
   caught_anew s (Exit (Reverts cause) t) e h k = (
@@ -171,7 +171,7 @@ module _ (typed : Typed) where
 
     -- a part in the invocation
     pub record Goes (s : State) {T : Type 0} (r : Control T) (n : Part T) : Type 0 where
-      pub keeps : Keeps (Some i) s (led r)
+      pub keeps : Keeps (Some i) s (end_state r)
       pub plays : AllPlay s r
       pub echo : Echo s r n
 
@@ -232,7 +232,7 @@ module _ (typed : Typed) where
     after_goes s (Done x u) n f g w e h k =
         let next : Goes u (f x u) (g x) = k x u (within_later s u h.keeps w) (h.keeps.empty e) in
         record {
-          keeps = keeps_then (Some i) s u (led (f x u)) h.keeps next.keeps;
+          keeps = keeps_then (Some i) s u (end_state (f x u)) h.keeps next.keeps;
           plays = play_then (Some i) s u x (f x u) w h.plays next.keeps next.plays;
           echo = echo_then s u x (f x u) n g h.echo next.echo;
         }

@@ -1,0 +1,5 @@
+use Rattle.ecf_removed.proofs.RemovalLaws as proved
+use Rattle.ecf_removed.proofs.invocations_repeat_alone.Goals as goal
+
+pub returns : goal.returns
+returns c = proved.invocations_repeat_alone
