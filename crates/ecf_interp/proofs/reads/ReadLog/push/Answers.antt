@@ -1,6 +1,6 @@
 use Rattle.std.proofs.Common.{◌≡◌, is_some, [], ◌∷◌, ◌++◌, ap, sym, ◌∙◌}
 use Rattle.ecf_lang.specs.Store.{find_cell}
-use Rattle.ecf_interp.proofs.CellOrder.{HasCellsOf-push}
+use Rattle.ecf_interp.proofs.ReadCells.{HasCellsOf-push}
 use Rattle.ecf_interp.proofs.reads.ReadLog.push.Goals as goal
 
 pub invariant_of-self-2 : goal.invariant_of-self-2
