@@ -1,3 +1,4 @@
+pub mod Chains
 pub mod Count
 pub mod Plan
 pub mod Shelf

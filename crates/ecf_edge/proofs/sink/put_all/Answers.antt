@@ -1,6 +1,7 @@
 use Rattle.std.proofs.Common.{◌∙◌, arith}
 use Rattle.std.proofs.lemmas.List.{take_rest}
-use Rattle.ecf_edge.proofs.Chains.{GrewByPrefix-take, Grew-append, take-further}
+use Rattle.ecf_edge.specs.Chains.{GrewByPrefix-take, Grew-append}
+use Rattle.ecf_edge.proofs.Further.{take-further}
 use Rattle.ecf_edge.proofs.sink.put_all.Goals as goal
 
 pub returns-in_err-written-clause-prefix : goal.returns-in_err-written-clause-prefix

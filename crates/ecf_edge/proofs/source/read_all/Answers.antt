@@ -1,7 +1,7 @@
 use Rattle.std.proofs.Common.{◌∙◌, arith}
 use Rattle.std.proofs.lemmas.Result.{err_from_is_err_and}
 use Rattle.std.proofs.lemmas.Grind.{common_steps}
-use Rattle.ecf_edge.proofs.Chains.{Gave-append}
+use Rattle.ecf_edge.specs.Chains.{Gave-append}
 use Rattle.ecf_edge.proofs.source.read_all.Goals as goal
 
 pub loop-bytes-preserved : goal.loop-bytes-preserved

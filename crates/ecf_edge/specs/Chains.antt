@@ -1,16 +1,8 @@
--- How the clauses of calls in a row join: texts that a sink took, pieces that a source gave, counts that rose.
-use Rattle.std.proofs.Common.{ℕ, ◌≡◌, ◌+◌, ◌-◌, ◌≤◌, List, [], ◌++◌, length, take, drop, Option, None, Some, refl, sym, ap, ◌∙◌, arith, append_assoc, append-nil, take-append-drop, length-append, IfSome}
-use Rattle.std.proofs.lemmas.List.{take_rest}
-use Rattle.std.proofs.Math.Seq.{take-add}
-use Rattle.ecf_edge.specs.Count.{Rose}
+-- How the words on a sink and on a source join over calls in a row. A proof in any crate may cite what stands here.
+use Rattle.std.specs.Prelude.{ℕ, ◌≡◌, List, [], ◌++◌, take, drop, Option, None, Some, refl}
+use Rattle.std.proofs.Common.{sym, ap, ◌∙◌, append_assoc, append-nil, take-append-drop}
 use Rattle.ecf_edge.specs.Sink.{appended, Grew, GrewByPrefix}
-use Rattle.ecf_edge.specs.Source.{prepended, Gave, IsAtEnd}
-
--- ---- counts
-
--- a count that rose had risen since any earlier moment, and has at any later one
-pub Rose-between : (first before after last : ℕ) → first ≤ before → Rose before after → after ≤ last → Rose first last
-Rose-between first before after last p q r = omega arith
+use Rattle.ecf_edge.specs.Source.{prepended, Gave}
 
 -- ---- what a sink holds
 
@@ -59,10 +51,6 @@ GrewByPrefix-append a b c s t p q = record {
 pub GrewByPrefix-take : (a b : Option (List ℕ)) (n : ℕ) (text : List ℕ) → Grew a (take n text) b → GrewByPrefix a text b
 GrewByPrefix-take a b n text p = record { written = take n text; rest = drop n text; whole = sym (take-append-drop n text); grew = p }
 
--- so many bytes of a text, and then so many of the rest of it
-pub take-further : (n m : ℕ) (text : List ℕ) → take n text ++ take m (take (length text - n) (drop n text)) ≡ take (n + m) text
-take-further n m text = rw (take_rest text n) (sym (take-add n m text))
-
 -- ---- what a source has left
 
 pub prepended-nil : (left : Option (List ℕ)) → prepended [] left ≡ left
@@ -79,22 +67,3 @@ Gave-nil left = sym (prepended-nil left)
 -- one piece and then another
 pub Gave-append : (a b c : Option (List ℕ)) (s t : List ℕ) → Gave a s b → Gave b t c → Gave a (s ++ t) c
 Gave-append a b c s t p q = p ∙ ap (λ left. prepended s left) q ∙ sym (prepended-append s t c)
-
--- the piece is all that was left, where nothing is left now
-pub Gave-all : (before after : Option (List ℕ)) (piece : List ℕ) → Gave before piece after → IsAtEnd after → IfSome before (λ bytes. piece ≡ bytes)
-Gave-all None after piece p q = tt
-Gave-all (Some bytes) None piece p q = cc
-Gave-all (Some bytes) (Some left) piece p q =
-    let whole : bytes ≡ piece ++ left = cc in
-    sym (whole ∙ ap (λ rest. piece ++ rest) q ∙ append-nil piece)
-
--- as many bytes were left as came, at least
-pub Gave-count : (before after : Option (List ℕ)) (piece : List ℕ) (n : ℕ) → Gave before piece after → n ≤ length piece → IfSome before (λ bytes. n ≤ length bytes)
-Gave-count None after piece n p q = tt
-Gave-count (Some bytes) None piece n p q = cc
-Gave-count (Some bytes) (Some left) piece n p q =
-    let whole : bytes ≡ piece ++ left = cc in
-    rw (whole, length-append) (omega arith)
-
--- what a proof of calls in a row may need
-pub ruleset chains = (Rose-between, Grew-nil, Grew-append, GrewByPrefix-whole, GrewByPrefix-none, GrewByPrefix-longer, GrewByPrefix-append, Gave-nil, Gave-append)
