@@ -53,7 +53,7 @@ writes_rise typed store tx = writes_rise_of store tx.fuel (calls_of typed store 
 pub run_keeps_store : RunKeepsStore
 run_keeps_store typed store tx h = subst IsStore (sym (ends_with_writes typed store tx)) (writes_keep_store store (run typed store tx).writes h)
 
--- a run that end_state to the same on another store
+-- what the result of a run on another store has in common with it, where both led to the same
 pub record AlsoOn (A B : Store) (limit : ℕ) (r : Control ℕ) : Type 0 where
   pub outcome : (result_of B limit r).outcome ≡ (result_of A limit r).outcome
   pub fuel : (result_of B limit r).fuel ≡ (result_of A limit r).fuel

@@ -10,7 +10,7 @@ use Rattle.ecf_lang.specs.Store.{Store}
 use Rattle.ecf_lang.specs.Part.{State, Control, Done, Exit, Part}
 use Rattle.ecf_lang.specs.Meaning.{Frame, Action, turns, frame_of, ways, value_of, answer_of, stmt_of, block_of, calls_of}
 
--- what the run has where a part end_state
+-- what the run has where a part led
 abbrev pub end_state : {A : Type 0} → Control A → State
 end_state (Done value state) = state
 end_state (Exit halt state) = state

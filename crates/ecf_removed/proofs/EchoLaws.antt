@@ -1,5 +1,5 @@
--- A part of a run, and the same part of the run of its invocation alone: where the one gives a value, the other gives it
--- too, wherever it reads, hears and may spend the same.
+-- A part of a run and the same part of the run of its invocation alone: what the first added to its invocation, the
+-- second adds too, wherever it will read the same, has the same answers to hear, and has as much fuel.
 use Rattle.std.proofs.Common.{◌≡◌, ℕ, zero, suc, ◌+◌, ◌<◌, ◌≤◌, true, false, List, [], ◌∷◌, ◌++◌, map, drop, length, Option, Some, None, inl, inr, refl, ap, sym, subst, ◌∙◌, append_assoc, arith}
 use Rattle.std.specs.Prelude.{IsSome, slice_get}
 use Rattle.std.proofs.lemmas.Bool.{cases_lt}
@@ -60,41 +60,41 @@ new_apart None s k within new e = cc
 new_apart (Some i) s k within new e = let same : i ≡ k = cc in omega (arith, within, new, same)
 
 module _ (typed : Typed) where
-  -- the invocation is of a method that its object has, does alone as recorded wherever its reads come out, and keeps to
-  -- its object
-  pub record Plays (inv : ℕ) (one : Invocation) (steps : List Step) : Type 0 where
+  -- the invocation is of a method that its object has, keeps to its object, and repeats alone what it did wherever its
+  -- steps read as recorded
+  pub record IsRepeatable (inv : ℕ) (one : Invocation) (steps : List Step) : Type 0 where
     pub has_method : IsSome (method_at typed one.object one.method)
     pub own : Each (λ step. step.cell.object ≡ one.object) steps
     pub does : (fields : Store) → AreSeen fields [] steps → RepeatsAlone typed inv one steps fields
 
-  -- each invocation that is there since, and wasn't undone, plays
-  abbrev pub AllPlay : {T : Type 0} → State → Control T → Type 0
-  AllPlay s (Done x t) = (k : ℕ) → length s.invocations ≤ k → (one : Invocation) → slice_get t.invocations k ≡ Some one → one.undone ≡ false → Plays k one (block t.steps k)
-  AllPlay s (Exit halt t) = Unit {0}
+  -- each invocation that came since, and wasn't undone, is repeatable
+  abbrev pub AllAreRepeatable : {T : Type 0} → State → Control T → Type 0
+  AllAreRepeatable s (Done x t) = (k : ℕ) → length s.invocations ≤ k → (one : Invocation) → slice_get t.invocations k ≡ Some one → one.undone ≡ false → IsRepeatable k one (block t.steps k)
+  AllAreRepeatable s (Exit halt t) = Unit {0}
 
-  pub play_then : {S T : Type 0} (o : Option ℕ) (s u : State) (x : S) (r : Control T) → Within o s → AllPlay s (Done x u) → Keeps o u (end_state r) → AllPlay u r → AllPlay s r
-  play_then o s u x (Exit halt t) within first keeps last = tt
-  play_then o s u x (Done y t) within first keeps last = λ k new one is stands. elim (cases_lt k (length u.invocations)) [
+  pub repeatable_then : {S T : Type 0} (o : Option ℕ) (s u : State) (x : S) (r : Control T) → Within o s → AllAreRepeatable s (Done x u) → Keeps o u (end_state r) → AllAreRepeatable u r → AllAreRepeatable s r
+  repeatable_then o s u x (Exit halt t) within first keeps last = tt
+  repeatable_then o s u x (Done y t) within first keeps last = λ k new one is stands. elim (cases_lt k (length u.invocations)) [
     | inl below ↦
         let apart : (o ≡ Some k → ⊥) = new_apart o s k within new in
-        subst (Plays k one) (sym (keeps.blocks k below apart)) (first k new one (sym (keeps.others k below apart) ∙ is) stands)
+        subst (IsRepeatable k one) (sym (keeps.blocks k below apart)) (first k new one (sym (keeps.others k below apart) ∙ is) stands)
     | inr later ↦ last k later one is stands
   ]
 
-  -- where no invocation came since, there is nothing to play
-  pub none_play : {T : Type 0} (s t : State) (x : T) → length t.invocations ≤ length s.invocations → AllPlay s (Done x t)
-  none_play s t x short k new one is stands = absurd (absent t.invocations k (omega (arith, short, new)) is)
+  -- where no invocation came since, there is nothing to repeat
+  pub nothing_new : {T : Type 0} (s t : State) (x : T) → length t.invocations ≤ length s.invocations → AllAreRepeatable s (Done x t)
+  nothing_new s t x short k new one is stands = absurd (absent t.invocations k (omega (arith, short, new)) is)
     where
       absent : (xs : List Invocation) (n : ℕ) → length xs ≤ n → slice_get xs n ≡ Some one → ⊥
       absent [] n h e = cc
       absent (y ∷ ys) zero h e = omega (arith, h)
       absent (y ∷ ys) (suc n) h e = absent ys n (omega (arith, h)) e
 
-  -- a part that is in no invocation
+  -- what holds of a part that is in no invocation: it leaves those that are there, and what it opens is repeatable
   abbrev pub Anew : Part ℕ → Type 0
-  Anew part = (s : State) → Empty s → Keeps None s (end_state (part s)) × AllPlay s (part s)
+  Anew part = (s : State) → Empty s → Keeps None s (end_state (part s)) × AllAreRepeatable s (part s)
 
-  caught_anew : (s : State) (r : Control ℕ) → Empty s → Keeps None s (end_state r) → AllPlay s r → Keeps None s (end_state (attempt_of (λ _. r) s)) × AllPlay s (attempt_of (λ _. r) s)
+  caught_anew : (s : State) (r : Control ℕ) → Empty s → Keeps None s (end_state r) → AllAreRepeatable s r → Keeps None s (end_state (attempt_of (λ _. r) s)) × AllAreRepeatable s (attempt_of (λ _. r) s)
   unfolding attempt_of
   caught_anew s (Done x t) e h k = (h, k)
   caught_anew s (Exit (Reverts cause) t) e h k = (
@@ -157,7 +157,7 @@ module _ (typed : Typed) where
       pub later : List ℕ
       pub next : recorded ≡ before ++ (answers ++ later)
 
-    -- where the part gave this value in the run, the part alone gives it wherever it is ready for what was added
+    -- where the part gave this value in the run, the part alone gives it wherever the run alone is ready for what was added
     pub record Echoed (s t : State) {T : Type 0} (x : T) (n : Part T) : Type 0 where
       pub steps : List Step
       pub answers : List ℕ
@@ -169,10 +169,10 @@ module _ (typed : Typed) where
     Echo s (Done x t) n = Echoed s t x n
     Echo s (Exit halt t) n = Unit {0}
 
-    -- a part in the invocation
+    -- what holds of a part in the invocation: what it leaves, that what it opens is repeatable, and its echo
     pub record Goes (s : State) {T : Type 0} (r : Control T) (n : Part T) : Type 0 where
       pub keeps : Keeps (Some i) s (end_state r)
-      pub plays : AllPlay s r
+      pub repeatable : AllAreRepeatable s r
       pub echo : Echo s r n
 
     abbrev pub Alike : (T : Type 0) → Part T → Part T → Type 0
@@ -233,10 +233,10 @@ module _ (typed : Typed) where
         let next : Goes u (f x u) (g x) = k x u (within_later s u h.keeps w) (h.keeps.empty e) in
         record {
           keeps = keeps_then (Some i) s u (end_state (f x u)) h.keeps next.keeps;
-          plays = play_then (Some i) s u x (f x u) w h.plays next.keeps next.plays;
+          repeatable = repeatable_then (Some i) s u x (f x u) w h.repeatable next.keeps next.repeatable;
           echo = echo_then s u x (f x u) n g h.echo next.echo;
         }
-    after_goes s (Exit halt u) n f g w e h k = record { keeps = h.keeps; plays = tt; echo = tt }
+    after_goes s (Exit halt u) n f g w e h k = record { keeps = h.keeps; repeatable = tt; echo = tt }
 
     -- a part that adds nothing
     grows_none : (s t : State) → slice_get t.invocations i ≡ slice_get s.invocations i → block t.steps i ≡ block s.steps i → Grows s t [] [] 0
@@ -252,7 +252,7 @@ module _ (typed : Typed) where
     pub pure_goes : {T : Type 0} (x : T) (s : State) → Goes s (pure x s) (pure x)
     pure_goes x s = record {
       keeps = keeps_same (Some i) s;
-      plays = none_play s s x (omega arith);
+      repeatable = nothing_new s s x (omega arith);
       echo = record {
         steps = [];
         answers = [];
@@ -263,4 +263,4 @@ module _ (typed : Typed) where
     }
 
     pub revert_goes : {T : Type 0} (cause : Cause) (s : State) → Goes s {T = T} (revert cause s) (revert cause)
-    revert_goes cause s = record { keeps = keeps_same (Some i) s; plays = tt; echo = tt }
+    revert_goes cause s = record { keeps = keeps_same (Some i) s; repeatable = tt; echo = tt }

@@ -1,4 +1,5 @@
--- Each invocation of a run, and the run of it alone.
+-- Each invocation of a run repeats alone what it did: by induction on the frames that may still be open, each part of
+-- the run against the same part of the run alone.
 use Rattle.std.proofs.Common.{◌≡◌, ℕ, zero, suc, ◌+◌, ◌-◌, ◌<◌, ◌≤◌, Bool, true, false, cond, ◌==◌, List, [], ◌∷◌, ◌++◌, map, length, Option, Some, None, inl, inr, refl, ap, sym, subst, ◌∙◌, arith}
 use Rattle.std.specs.Prelude.{IsSome, if◌then◌else◌, nat_lt, slice_get}
 use Rattle.std.proofs.lemmas.Bool.{cases_lt, eqb-true}
@@ -20,9 +21,10 @@ use Rattle.ecf_lang.specs.Alone.{of_invocation, lone_frame, inside, by_itself, l
 use Rattle.ecf_laws.specs.Parts.{end_state}
 use Rattle.ecf_laws.specs.Replay.{after_steps, AreSeen}
 use Rattle.std.proofs.lemmas.Option.{same_Some}
-use Rattle.ecf_verdicts.specs.ListLemmas.{Each}
+use Rattle.ecf_verdicts.specs.ListLemmas.{Each, All_from_Each}
 use Rattle.ecf_verdicts.specs.Blocks.{block}
 use Rattle.ecf_removed.specs.LoneRuns.{RepeatsAlone}
+use Rattle.ecf_removed.specs.Laws.{InvocationsHaveMethods, InvocationsRepeatAlone, StepsOnOwnObject}
 use Rattle.ecf_removed.proofs.StateLaws.{get_old, get_new, changed_same, changed_other, changed_long}
 use Rattle.ecf_removed.proofs.EchoLaws as echo
 use Rattle.ecf_laws.specs.FrameLaws as frames
@@ -107,7 +109,7 @@ module _ (typed : Typed) where
       empty = λ e k new. h.empty e k (omega (arith, new, changed_long (with_answer v) u.invocations (length s.invocations)));
     }
 
-    -- an invocation that answered plays
+    -- an invocation that answered is repeatable
     module _ (room : ℕ) (v : Ways) (h : WaysGo room v) (few : room < MAX_FRAMES) (to name : ℕ) (args : List ℕ) (method : TypedMethod) (there : method_at typed to name ≡ Some method) (s : State) (empty : echo.Empty s) where
       abbrev inv : ℕ
       inv = length s.invocations
@@ -184,8 +186,8 @@ module _ (typed : Typed) where
                   (ap (map (of_invocation inv)) (end.2.steps_more ∙ ap (map (of_invocation 0)) steps) ∙ block_back u.steps inv);
             }
 
-        plays_one : echo.Plays typed inv one (block u.steps inv)
-        plays_one = record { has_method = subst IsSome (sym there) refl; own = subst (Each (λ step. step.cell.object ≡ to)) (same_steps store [] 0) first.grows.own; does = does }
+        one_is_repeatable : echo.IsRepeatable typed inv one (block u.steps inv)
+        one_is_repeatable = record { has_method = subst IsSome (sym there) refl; own = subst (Each (λ step. step.cell.object ≡ to)) (same_steps store [] 0) first.grows.own; does = does }
 
         -- the invocation as it stands at its end
         at_end : slice_get (with_change (with_answer x) u.invocations inv) inv ≡ Some one
@@ -197,19 +199,19 @@ module _ (typed : Typed) where
       answer : ℕ → Part ℕ
       answer x = note (with_answer x) inv >> pure x
 
-      -- what of it all is kept and played, from where the body end_state
-      opened_goes : (r : Control ℕ) → body ≡ r → echo.Keeps None s (end_state (after r (λ x. note (with_answer x) inv >> pure x))) × echo.AllPlay typed s (after r (λ x. note (with_answer x) inv >> pure x))
+      -- what is kept and repeatable once the answer is noted, from where the body led
+      opened_goes : (r : Control ℕ) → body ≡ r → echo.Keeps None s (end_state (after r (λ x. note (with_answer x) inv >> pure x))) × echo.AllAreRepeatable typed s (after r (λ x. note (with_answer x) inv >> pure x))
       opened_goes (Exit halt u) is = (keeps_outside s u (opened to name args) (subst (λ r. echo.Keeps (Some inv) start (end_state r)) is (goes store 0 [] 0).keeps), tt)
       opened_goes (Done x u) is =
           let kept : echo.Keeps (Some inv) start u = subst (λ r. echo.Keeps (Some inv) start (end_state r)) is (goes store 0 [] 0).keeps in
-          let later : echo.AllPlay typed start (Done x u) = subst (echo.AllPlay typed start) is (goes store 0 [] 0).plays in (
+          let later : echo.AllAreRepeatable typed start (Done x u) = subst (echo.AllAreRepeatable typed start) is (goes store 0 [] 0).repeatable in (
             keeps_answered s u x (keeps_outside s u (opened to name args) kept),
             λ k new other at stands. elim (cases_lt inv k) [
               | inl above ↦ later k (omega (arith, above, opened_long s (opened to name args))) other (sym (changed_other (with_answer x) u.invocations inv k (λ e. omega (arith, above, e))) ∙ at) stands
               | inr least ↦
                   let same : k ≡ inv = omega (arith, new, least) in
                   let this : one x u is ≡ other = same_Some _ _ (sym (at_end x u is) ∙ ap (λ n. slice_get (with_change (with_answer x) u.invocations inv) n) (sym same) ∙ at) in
-                  subst (λ n. echo.Plays typed n other (block u.steps n)) (sym same) (subst (λ o. echo.Plays typed inv o (block u.steps inv)) this (plays_one x u is))
+                  subst (λ n. echo.IsRepeatable typed n other (block u.steps n)) (sym same) (subst (λ o. echo.IsRepeatable typed inv o (block u.steps inv)) this (one_is_repeatable x u is))
             ],
           )
 
@@ -221,7 +223,7 @@ module _ (typed : Typed) where
     tested_anew room v h few to name args s e = by (nat_lt (length s.invocations) MAX_INVOCATIONS) (invoke_anew room v h few to name args (method_at typed to name) refl s e)
       where
         Goes : Control ℕ → Type 0
-        Goes r = echo.Keeps None s (end_state r) × echo.AllPlay typed s r
+        Goes r = echo.Keeps None s (end_state r) × echo.AllAreRepeatable typed s r
 
         by : (b : Bool) → Goes (invoke typed store v to (method_at typed to name) name args s) → Goes ((if b then invoke typed store v to (method_at typed to name) name args else revert Calls) s)
         by true i = i
@@ -236,7 +238,7 @@ module _ (typed : Typed) where
     ways_go zero few = record { within = λ fields one i more enough name args s w e. halted fields one i more name args s; anew = λ to name args s e. (echo.keeps_same None s, tt) }
       where
         halted : (fields : Store) (one : Invocation) (i more name : ℕ) (args : List ℕ) (s : State) → echo.Goes typed fields one.answers one.object i s (Exit (Reverts Depth) s) (inside typed fields one more name args)
-        halted fields one i more name args s = record { keeps = echo.keeps_same (Some i) s; plays = tt; echo = tt }
+        halted fields one i more name args s = record { keeps = echo.keeps_same (Some i) s; repeatable = tt; echo = tt }
     ways_go (suc room) few =
         let h : WaysGo room (ways typed store room) = ways_go room (omega (arith, few)) in
         record {
@@ -247,23 +249,32 @@ module _ (typed : Typed) where
     anew_then : (m n : Part ℕ) → echo.Anew typed m → echo.Anew typed n → echo.Anew typed (m >> n)
     anew_then m n h k s e = by (m s) (h s e).0 (h s e).1
       where
-        by : (r : Control ℕ) → echo.Keeps None s (end_state r) → echo.AllPlay typed s r → echo.Keeps None s (end_state (after r (λ _. n))) × echo.AllPlay typed s (after r (λ _. n))
-        by (Exit halt u) keeps plays = (keeps, tt)
-        by (Done x u) keeps plays =
+        by : (r : Control ℕ) → echo.Keeps None s (end_state r) → echo.AllAreRepeatable typed s r → echo.Keeps None s (end_state (after r (λ _. n))) × echo.AllAreRepeatable typed s (after r (λ _. n))
+        by (Exit halt u) keeps repeatable = (keeps, tt)
+        by (Done x u) keeps repeatable =
             let next = k u (keeps.empty e) in
-            (echo.keeps_then None s u (end_state (n u)) keeps next.0, echo.play_then typed None s u x (n u) tt plays next.0 next.1)
+            (echo.keeps_then None s u (end_state (n u)) keeps next.0, echo.repeatable_then typed None s u x (n u) tt repeatable next.0 next.1)
 
     calls_go : (calls : List TxCall) → echo.Anew typed (calls_of typed store calls)
-    calls_go [] = λ s e. (echo.keeps_same None s, echo.none_play typed {T = ℕ} s s 0 (omega arith))
+    calls_go [] = λ s e. (echo.keeps_same None s, echo.nothing_new typed {T = ℕ} s s 0 (omega arith))
     calls_go (call ∷ []) = (ways_go MAX_FRAMES (omega arith)).anew call.object call.method call.args
     calls_go (call ∷ next ∷ calls) = anew_then ((ways typed store MAX_FRAMES).anew call.object call.method call.args) (calls_of typed store (next ∷ calls)) ((ways_go MAX_FRAMES (omega arith)).anew call.object call.method call.args) (calls_go (next ∷ calls))
 
-    ran_plays : (limit : ℕ) (r : Control ℕ) (value : ℕ) → echo.AllPlay typed (initial_state limit) r → (result_of store limit r).outcome ≡ Answer value → (k : ℕ) (one : Invocation) → slice_get (result_of store limit r).invocations k ≡ Some one → one.undone ≡ false → echo.Plays typed k one (block (result_of store limit r).steps k)
-    ran_plays limit (Done x t) value h is k one at stands = h k (omega arith) one at stands
-    ran_plays limit (Exit (Reverts cause) t) value h is k one at stands = absurd (cc)
-    ran_plays limit (Exit RunsOut t) value h is k one at stands = absurd (cc)
+    result_is_repeatable : (limit : ℕ) (r : Control ℕ) (value : ℕ) → echo.AllAreRepeatable typed (initial_state limit) r → (result_of store limit r).outcome ≡ Answer value → (k : ℕ) (one : Invocation) → slice_get (result_of store limit r).invocations k ≡ Some one → one.undone ≡ false → echo.IsRepeatable typed k one (block (result_of store limit r).steps k)
+    result_is_repeatable limit (Done x t) value h is k one at stands = h k (omega arith) one at stands
+    result_is_repeatable limit (Exit (Reverts cause) t) value h is k one at stands = absurd (cc)
+    result_is_repeatable limit (Exit RunsOut t) value h is k one at stands = absurd (cc)
 
-    -- each invocation of a run that answered, but for those undone
-    pub run_plays : (tx : Tx) (value : ℕ) → (run typed store tx).outcome ≡ Answer value → (k : ℕ) (one : Invocation) → slice_get (run typed store tx).invocations k ≡ Some one → one.undone ≡ false → echo.Plays typed k one (block (run typed store tx).steps k)
+    -- each invocation of a run that answered, but for those undone, is repeatable
+    pub each_is_repeatable : (tx : Tx) (value : ℕ) → (run typed store tx).outcome ≡ Answer value → (k : ℕ) (one : Invocation) → slice_get (run typed store tx).invocations k ≡ Some one → one.undone ≡ false → echo.IsRepeatable typed k one (block (run typed store tx).steps k)
     unfolding run
-    run_plays tx value is k one at stands = ran_plays tx.fuel (calls_of typed store tx.calls (initial_state tx.fuel)) value (calls_go tx.calls (initial_state tx.fuel) (λ k new. refl)).1 is k one at stands
+    each_is_repeatable tx value is k one at stands = result_is_repeatable tx.fuel (calls_of typed store tx.calls (initial_state tx.fuel)) value (calls_go tx.calls (initial_state tx.fuel) (λ k new. refl)).1 is k one at stands
+
+pub invocations_repeat_alone : InvocationsRepeatAlone
+invocations_repeat_alone typed store tx value is inv one at stands fields seen = (each_is_repeatable typed store tx value is inv one at stands).does fields seen
+
+pub invocations_have_methods : InvocationsHaveMethods
+invocations_have_methods typed store tx value is inv one at stands = (each_is_repeatable typed store tx value is inv one at stands).has_method
+
+pub steps_on_own_object : StepsOnOwnObject
+steps_on_own_object typed store tx value is inv one at stands = All_from_Each (λ (step : Step). step.cell.object ≡ one.object) (block (run typed store tx).steps inv) (each_is_repeatable typed store tx value is inv one at stands).own

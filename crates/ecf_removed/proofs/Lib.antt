@@ -7,4 +7,5 @@ pub mod EchoLaws
 pub mod PartLaws
 pub mod LoopLaws
 pub mod InvocationLaws
+pub mod LoneRunLaws
 pub mod RemovalLaws

@@ -1,4 +1,5 @@
--- Loops of a run and of the run of its invocation alone: each turn is charged, so the own charge bounds the turns.
+-- Loops. Both runs have a number of turns; since each turn is charged, the invocation's own charge bounds the turns that
+-- the run alone makes.
 use Rattle.std.proofs.Common.{◌≡◌, ℕ, zero, suc, ◌+◌, ◌<◌, ◌≤◌, Bool, true, false, List, [], ◌++◌, length, Some, refl, ap, ◌∙◌, arith}
 use Rattle.std.specs.Prelude.{nat_le}
 use Rattle.ecf_lang.specs.declared.costs.TheConstants.{TURN}
@@ -28,7 +29,7 @@ module _ (typed : Typed) (fields : Store) (recorded : List ℕ) (here i : ℕ) w
 
   pub record GoesBy (b : ℕ) (s : State) {T : Type 0} (r : Control T) (n : ℕ → Part T) : Type 0 where
     pub keeps : echo.Keeps (Some i) s (end_state r)
-    pub plays : echo.AllPlay typed s r
+    pub repeatable : echo.AllAreRepeatable typed s r
     pub echo_by : EchoBy b s r n
 
   abbrev pub AlikeBy : ℕ → (T : Type 0) → Part T → (ℕ → Part T) → Type 0
@@ -43,7 +44,7 @@ module _ (typed : Typed) (fields : Store) (recorded : List ℕ) (here i : ℕ) w
 
   -- a part without turns has enough of them
   any_by : {T : Type 0} (b : ℕ) (s : State) (r : Control T) (n : Part T) → Goes s r n → GoesBy b s r (λ k. n)
-  any_by b s r n h = record { keeps = h.keeps; plays = h.plays; echo_by = any_echo b s r n h.echo }
+  any_by b s r n h = record { keeps = h.keeps; repeatable = h.repeatable; echo_by = any_echo b s r n h.echo }
 
   echo_then : {S T : Type 0} (b : ℕ) (s u : State) (x : S) (r : Control T) (n : Part S) (g : ℕ → S → Part T) → echo.Echoed typed fields recorded here i s u x n → EchoBy b u r (λ k. g k x) → EchoBy b s r (λ k. n >>= g k)
   echo_then b s u x (Exit halt t) n g h k = tt
@@ -63,10 +64,10 @@ module _ (typed : Typed) (fields : Store) (recorded : List ℕ) (here i : ℕ) w
       let next : GoesBy b u (f x u) (λ turn. g turn x) = k x u (echo.within_later typed fields recorded here i s u h.keeps w) (h.keeps.empty e) in
       record {
         keeps = echo.keeps_then (Some i) s u (end_state (f x u)) h.keeps next.keeps;
-        plays = echo.play_then typed (Some i) s u x (f x u) w h.plays next.keeps next.plays;
+        repeatable = echo.repeatable_then typed (Some i) s u x (f x u) w h.repeatable next.keeps next.repeatable;
         echo_by = echo_then b s u x (f x u) n g h.echo next.echo_by;
       }
-  after_by b s (Exit halt u) n f g w e h k = record { keeps = h.keeps; plays = tt; echo_by = tt }
+  after_by b s (Exit halt u) n f g w e h k = record { keeps = h.keeps; repeatable = tt; echo_by = tt }
 
   -- the charge of a turn gives one turn more
   paid_echo : {T : Type 0} (s : State) (r : Control T) (n : ℕ → Part T) → EchoBy 0 (parts.paid i TURN s) r n → EchoBy 1 s r (λ k. pay 0 TURN >> n k)
@@ -88,10 +89,10 @@ module _ (typed : Typed) (fields : Store) (recorded : List ℕ) (here i : ℕ) w
       let next : GoesBy 0 (parts.paid i TURN s) (m (parts.paid i TURN s)) n = h (parts.paid i TURN s) (echo.within_later typed fields recorded here i s (parts.paid i TURN s) keeps w) (keeps.empty e) in
       record {
         keeps = echo.keeps_then (Some i) s (parts.paid i TURN s) (end_state (m (parts.paid i TURN s))) keeps next.keeps;
-        plays = echo.play_then typed {S = Unit {0}} (Some i) s (parts.paid i TURN s) tt (m (parts.paid i TURN s)) w (echo.none_play typed {T = Unit {0}} s (parts.paid i TURN s) tt (parts.paid_long i TURN s)) next.keeps next.plays;
+        repeatable = echo.repeatable_then typed {S = Unit {0}} (Some i) s (parts.paid i TURN s) tt (m (parts.paid i TURN s)) w (echo.nothing_new typed {T = Unit {0}} s (parts.paid i TURN s) tt (parts.paid_long i TURN s)) next.keeps next.repeatable;
         echo_by = paid_echo s (m (parts.paid i TURN s)) n next.echo_by;
       }
-  paid_by s false m n w e h = record { keeps = record { longer = omega arith; others = λ k h a. refl; blocks = λ k h a. refl; empty = λ h. h }; plays = tt; echo_by = tt }
+  paid_by s false m n w e h = record { keeps = record { longer = omega arith; others = λ k h a. refl; blocks = λ k h a. refl; empty = λ h. h }; repeatable = tt; echo_by = tt }
 
   pay_by : {T : Type 0} (m : Part T) (n : ℕ → Part T) → AlikeBy 0 T m n → AlikeBy 1 T (pay i TURN >> m) (λ k. pay 0 TURN >> n k)
   unfolding pay
@@ -107,7 +108,7 @@ module _ (typed : Typed) (fields : Store) (recorded : List ℕ) (here i : ℕ) w
       by (suc k) enough l r = h.lone k (omega (arith, enough)) l r
 
   down_by : {T : Type 0} (s : State) (r : Control T) (n : ℕ → Part T) → GoesBy 1 s r (λ k. n (suc k)) → GoesBy 0 s r n
-  down_by s r n h = record { keeps = h.keeps; plays = h.plays; echo_by = down_echo s r n h.echo_by }
+  down_by s r n h = record { keeps = h.keeps; repeatable = h.repeatable; echo_by = down_echo s r n h.echo_by }
 
   zero_by : {T : Type 0} (b x : ℕ) (k : Part T) (l : Part T) (m : Part T) (n : ℕ → Part T) → AlikeBy b T k (λ _. l) → AlikeBy b T m n → AlikeBy b T (at_zero x k m) (λ turn. at_zero x l (n turn))
   zero_by b zero k l m n h j = h
@@ -128,7 +129,7 @@ module _ (typed : Typed) (fields : Store) (recorded : List ℕ) (here i : ℕ) w
 
       turns_by : (n : ℕ) (locals : List ℕ) → AlikeBy 0 Flow (turns store f n cond d locals) (λ k. turns fields g k cond e locals)
       unfolding turns
-      turns_by zero locals = λ s w empty. record { keeps = record { longer = omega arith; others = λ k h a. refl; blocks = λ k h a. refl; empty = λ h. h }; plays = tt; echo_by = tt }
+      turns_by zero locals = λ s w empty. record { keeps = record { longer = omega arith; others = λ k h a. refl; blocks = λ k h a. refl; empty = λ h. h }; repeatable = tt; echo_by = tt }
       turns_by (suc n) locals = λ s w empty.
           down_by s (turns store f (suc n) cond d locals s) (λ k. turns fields g k cond e locals)
           (after_by 1 s (value_of store f locals cond s) (value_of fields g locals cond)
@@ -147,7 +148,7 @@ module _ (typed : Typed) (fields : Store) (recorded : List ℕ) (here i : ℕ) w
       pub loop_goes : (locals : List ℕ) → echo.Alike typed fields recorded here i Flow (λ s. turns store f (suc s.fuel) cond d locals s) (λ l. turns fields g (suc l.fuel) cond e locals l)
       loop_goes locals s w empty =
           let h : GoesBy 0 s (turns store f (suc s.fuel) cond d locals s) (λ k. turns fields g k cond e locals) = turns_by (suc s.fuel) locals s w empty in
-          record { keeps = h.keeps; plays = h.plays; echo = own_echo s (turns store f (suc s.fuel) cond d locals s) locals h.echo_by }
+          record { keeps = h.keeps; repeatable = h.repeatable; echo = own_echo s (turns store f (suc s.fuel) cond d locals s) locals h.echo_by }
 
   pub closed : (store : Store) → frames.IsClosed store fields here i 0 (echo.Alike typed fields recorded here i)
   closed store = record {

@@ -1,4 +1,4 @@
--- The single parts of a run and of the run of its invocation alone: charges, reads, writes, calls, and loops.
+-- Single parts: a charge, a read, a write and a call add the same to the invocation in both runs.
 use Rattle.std.proofs.Common.{◌≡◌, ℕ, ◌+◌, ◌-◌, ◌<◌, ◌≤◌, Bool, true, false, List, [], ◌∷◌, ◌++◌, length, Option, Some, None, refl, ap, sym, ◌∙◌, arith}
 use Rattle.std.specs.Prelude.{if◌then◌else◌, nat_le, slice_get}
 use Rattle.std.specs.Option.{option_map_or}
@@ -68,7 +68,7 @@ module _ (typed : Typed) where
     paid_goes : (n : ℕ) (s : State) (b : Bool) → nat_le n s.fuel ≡ b → echo.Goes typed fields recorded here i s (paying i n s b) (pay 0 n)
     paid_goes n s true is = record {
       keeps = keeps_paid i n s;
-      plays = echo.none_play typed {T = Unit {0}} s (paid i n s) tt (omega (arith, changed_long (with_charge n) s.invocations i));
+      repeatable = echo.nothing_new typed {T = Unit {0}} s (paid i n s) tt (omega (arith, changed_long (with_charge n) s.invocations i));
       echo = record {
         steps = [];
         answers = [];
@@ -77,7 +77,7 @@ module _ (typed : Typed) where
         lone = λ l r. (paid 0 n l, pay_gives 0 n l r.fuel, follows_paid n l r.fuel);
       };
     }
-    paid_goes n s false is = record { keeps = record { longer = omega arith; others = λ k h a. refl; blocks = λ k h a. refl; empty = λ h. h }; plays = tt; echo = tt }
+    paid_goes n s false is = record { keeps = record { longer = omega arith; others = λ k h a. refl; blocks = λ k h a. refl; empty = λ h. h }; repeatable = tt; echo = tt }
 
     pub pay_goes : (n : ℕ) → echo.Alike typed fields recorded here i (Unit {0}) (pay i n) (pay 0 n)
     unfolding pay
@@ -113,7 +113,7 @@ module _ (typed : Typed) where
         let t : State = record s { reads = with_read s.written s.reads cell value; steps = s.steps ++ record { inv = i; write = false; cell = cell; value = value } ∷ [] } in
         record {
           keeps = keeps_step s t (record { inv = i; write = false; cell = cell; value = value }) refl w refl refl;
-          plays = echo.none_play typed s t value (omega arith);
+          repeatable = echo.nothing_new typed s t value (omega arith);
           echo = record {
             steps = record { inv = i; write = false; cell = cell; value = value } ∷ [];
             answers = [];
@@ -134,7 +134,7 @@ module _ (typed : Typed) where
         let t : State = record s { written = set s.written cell value; steps = s.steps ++ record { inv = i; write = true; cell = cell; value = value } ∷ [] } in
         record {
           keeps = keeps_step s t (record { inv = i; write = true; cell = cell; value = value }) refl w refl refl;
-          plays = echo.none_play typed {T = Unit {0}} s t tt (omega arith);
+          repeatable = echo.nothing_new typed {T = Unit {0}} s t tt (omega arith);
           echo = record {
             steps = record { inv = i; write = true; cell = cell; value = value } ∷ [];
             answers = [];
@@ -163,13 +163,13 @@ module _ (typed : Typed) where
         let is : slice_get recorded (heard_count l) ≡ Some v = ap (λ n. slice_get recorded n) far ∙ ap (λ m. slice_get m (length before)) next ∙ get_next before v later in
         ap (λ o. hear o l) is
 
-    heard_at : (s : State) (r : Control ℕ) → i < length s.invocations → echo.Keeps None s (end_state r) → echo.AllPlay typed s r → echo.Goes typed fields recorded here i s (after r (λ v. note (with_heard v) i >> pure v)) (next_answer recorded)
-    heard_at s (Exit halt u) w keeps plays = record { keeps = echo.keeps_more (Some i) s u keeps; plays = tt; echo = tt }
-    heard_at s (Done v u) w keeps plays =
+    heard_at : (s : State) (r : Control ℕ) → i < length s.invocations → echo.Keeps None s (end_state r) → echo.AllAreRepeatable typed s r → echo.Goes typed fields recorded here i s (after r (λ v. note (with_heard v) i >> pure v)) (next_answer recorded)
+    heard_at s (Exit halt u) w keeps repeatable = record { keeps = echo.keeps_more (Some i) s u keeps; repeatable = tt; echo = tt }
+    heard_at s (Done v u) w keeps repeatable =
         let same : slice_get u.invocations i ≡ slice_get s.invocations i = keeps.others i w (λ e. cc) in
         record {
           keeps = keeps_heard v s u keeps;
-          plays = λ k new one is stands. plays k new one (sym (changed_other (with_heard v) u.invocations i k (λ e. omega (arith, w, new, e))) ∙ is) stands;
+          repeatable = λ k new one is stands. repeatable k new one (sym (changed_other (with_heard v) u.invocations i k (λ e. omega (arith, w, new, e))) ∙ is) stands;
           echo = record {
             steps = [];
             answers = v ∷ [];

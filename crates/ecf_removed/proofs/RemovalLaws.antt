@@ -1,4 +1,5 @@
--- Callbacks removed: the invocations of a committed run on one object, each alone, one after the other.
+-- Callbacks removed. Down the named order each block reads as recorded from the fields so far, so its invocation repeats
+-- what it did, and leaves what the block leaves.
 use Rattle.std.proofs.Common.{◌≡◌, ℕ, Bool, true, false, cond, ◌==◌, List, [], ◌∷◌, ◌++◌, map, Option, Some, None, refl, sym, ap, subst, ◌∙◌}
 use Rattle.std.specs.Prelude.{slice_get, Contains}
 use Rattle.std.specs.Option.{IsSomeAnd}
@@ -11,9 +12,8 @@ use Rattle.ecf_lang.specs.declared.run.Outcome.TheVariants.{Answer, Reverted, Ou
 use Rattle.ecf_lang.specs.declared.typed.Typed.{Typed}
 use Rattle.ecf_lang.specs.declared.tx.Tx.{Tx}
 use Rattle.ecf_lang.specs.Store.{Store, IsStore, read, with_writes}
-use Rattle.ecf_lang.specs.Part.{Control, Done, Exit}
-use Rattle.ecf_lang.specs.Meaning.{run, result_of, initial_state}
-use Rattle.ecf_lang.specs.Alone.{Lone, lone_of, by_itself, alone}
+use Rattle.ecf_lang.specs.Meaning.{run}
+use Rattle.ecf_lang.specs.Alone.{Lone, alone}
 use Rattle.ecf_stores.specs.StoreLaws.{writes_keep_store}
 use Rattle.ecf_laws.specs.Laws.{IsOfStandingInvocation, UndoneStepsVanish, EndsWithWrites, ReadsSeeWrites, WritesAreOfSteps}
 use Rattle.ecf_laws.specs.Replay.{AreSeen, after_steps}
@@ -25,21 +25,12 @@ use Rattle.ecf_verdicts.specs.Traces.{members, trace}
 use Rattle.ecf_verdicts.specs.ListLemmas.{Each, In, Each_at, Each_weaker, Each_from_all, All_from_Each, Has_in, Has_from_Any, In_filter, In_filter_from}
 use Rattle.ecf_removed.specs.Contents.{Contents, contents_after, contents_after_all, ReadsGive, BlocksDoAlike, TraceSuffices}
 use Rattle.ecf_verdicts.specs.Blocks.{block, blocks}
-use Rattle.ecf_removed.specs.LoneRuns.{LoneRuns, with_run, run_and_others, lone_runs, RepeatsAlone, RepeatsNext, IsAsRecorded, CallbacksRemovedFrom}
-use Rattle.ecf_removed.specs.Laws.{CallbacksRemoved, EachRepeatsNext, FreeBlocksDoAlike, InvocationsHaveMethods, InvocationsRepeatAlone, LoneRunsGoOn, LoneRunsKeepStore, StepsOnOwnObject}
+use Rattle.ecf_removed.specs.LoneRuns.{LoneRuns, run_and_others, lone_runs, RepeatsAlone, RepeatsNext, IsAsRecorded, CallbacksRemovedFrom}
+use Rattle.ecf_removed.specs.Laws.{CallbacksRemoved, EachRepeatsNext, FreeBlocksDoAlike}
 use Rattle.ecf_removed.proofs.EchoLaws as echo
 use Rattle.ecf_removed.proofs.ContentLaws.{seen_from_reads, reads_from_seen, read-after_steps}
-use Rattle.ecf_removed.proofs.InvocationLaws as rooms
+use Rattle.ecf_removed.proofs.InvocationLaws.{each_is_repeatable}
 use Rattle.ecf_removed.proofs.TraceLaws.{traces_suffice}
-
-pub invocations_repeat_alone : InvocationsRepeatAlone
-invocations_repeat_alone typed store tx value is inv one at stands fields seen = (rooms.run_plays typed store tx value is inv one at stands).does fields seen
-
-pub invocations_have_methods : InvocationsHaveMethods
-invocations_have_methods typed store tx value is inv one at stands = (rooms.run_plays typed store tx value is inv one at stands).has_method
-
-pub steps_on_own_object : StepsOnOwnObject
-steps_on_own_object typed store tx value is inv one at stands = All_from_Each (λ (step : Step). step.cell.object ≡ one.object) (block (run typed store tx).steps inv) (rooms.run_plays typed store tx value is inv one at stands).own
 
 -- the laws of runs and of verdicts that callbacks removed rest on
 pub record Premises : Type 0 where
@@ -65,14 +56,14 @@ contents_after_all-append : (xs ys : List Step) (contents : Contents) → conten
 contents_after_all-append [] ys contents = refl
 contents_after_all-append (x ∷ xs) ys contents = contents_after_all-append xs ys (contents_after x contents)
 
--- an invocation with steps on an object: it is there, stands and answered
+-- an invocation with steps on an object: it is there, its steps are those of the trace, and it repeats them alone
 pub record Member (typed : Typed) (invocations : List Invocation) (steps t : List Step) (inv : ℕ) : Type 0 where
   pub one : Invocation
   pub is : slice_get invocations inv ≡ Some one
   pub same : block t inv ≡ block steps inv
   pub does : (fields : Store) → AreSeen fields [] (block steps inv) → RepeatsAlone typed inv one (block steps inv) fields
 
--- the invocation of that number does alone, on these fields, as recorded
+-- the invocation of that number repeats alone, on these fields, what it did
 pub record Next (typed : Typed) (invocations : List Invocation) (steps : List Step) (inv : ℕ) (fields : Store) : Type 0 where
   pub one : Invocation
   pub is : slice_get invocations inv ≡ Some one
@@ -125,34 +116,6 @@ in_turn typed invocations steps t (inv ∷ order) fields h among reads =
         let here : Next typed invocations steps n (run_and_others typed inv (slice_get invocations inv) fields (lone_runs typed invocations taken)).fields = subst (λ o. Next typed invocations steps n (run_and_others typed inv o fields (lone_runs typed invocations taken)).fields) (sym m.is) (later taken more n others) in
         subst (λ j. Next typed invocations steps n (run_and_others typed j (slice_get invocations j) fields (lone_runs typed invocations taken)).fields) same here
 
-first_goes_on : (typed : Typed) (inv : ℕ) (one : Option Invocation) (fields : Store) (short long : Store → LoneRuns) (more : Store → LoneRuns) →
-    ((left : Store) → long left ≡ record { runs = (short left).runs ++ (more (short left).fields).runs; fields = (more (short left).fields).fields }) →
-    run_and_others typed inv one fields long ≡ record { runs = (run_and_others typed inv one fields short).runs ++ (more (run_and_others typed inv one fields short).fields).runs; fields = (more (run_and_others typed inv one fields short).fields).fields }
-first_goes_on typed inv None fields short long more h = h fields
-first_goes_on typed inv (Some one) fields short long more h = ap (with_run inv (alone typed inv one fields)) (h (alone typed inv one fields).fields)
-
-pub lone_runs_go_on : LoneRunsGoOn
-unfolding lone_runs
-lone_runs_go_on typed invocations [] more fields = refl
-lone_runs_go_on typed invocations (inv ∷ order) more fields = first_goes_on typed inv (slice_get invocations inv) fields (lone_runs typed invocations order) (lone_runs typed invocations (order ++ more)) (lone_runs typed invocations more) (λ left. lone_runs_go_on typed invocations order more left)
-
-ran_store : (inv limit : ℕ) (fields : Store) (r : Control ℕ) → IsStore fields → IsStore (lone_of inv (result_of fields limit r)).fields
-ran_store inv limit fields (Done x s) h = writes_keep_store fields s.written h
-ran_store inv limit fields (Exit halt s) h = h
-
-alone_store : (typed : Typed) (inv : ℕ) (one : Invocation) (fields : Store) → IsStore fields → IsStore (alone typed inv one fields).fields
-unfolding alone
-alone_store typed inv one fields h = ran_store inv one.own_fuel fields (by_itself typed fields one (initial_state one.own_fuel)) h
-
-first_store : (typed : Typed) (inv : ℕ) (o : Option Invocation) (fields : Store) (others : Store → LoneRuns) → ((left : Store) → IsStore left → IsStore (others left).fields) → IsStore fields → IsStore (run_and_others typed inv o fields others).fields
-first_store typed inv None fields others k h = k fields h
-first_store typed inv (Some one) fields others k h = k (alone typed inv one fields).fields (alone_store typed inv one fields h)
-
-pub lone_runs_keep_store : LoneRunsKeepStore
-unfolding lone_runs
-lone_runs_keep_store typed invocations [] fields h = h
-lone_runs_keep_store typed invocations (inv ∷ order) fields h = first_store typed inv (slice_get invocations inv) fields (lone_runs typed invocations order) (lone_runs_keep_store typed invocations order) h
-
 -- steps on one object alone are those of its trace
 trace_block : (steps : List Step) (object inv : ℕ) → Each (λ (s : Step). s.cell.object ≡ object) (block steps inv) → block (trace steps object) inv ≡ block steps inv
 unfolding trace
@@ -194,13 +157,13 @@ module _ (laws : Premises) (typed : Typed) (store : Store) (tx : Tx) (object val
       let there : In step steps × (step.cell.object ≡ object) = In_trace steps object step some.1 in
       let stand : IsOfStandingInvocation invocations step = Each_at (IsOfStandingInvocation invocations) steps step (Each_from_all (IsOfStandingInvocation invocations) steps (laws.undone typed store tx)) there.0 in
       let found = stands_of invocations inv (subst (λ n. IsSomeAnd (slice_get invocations n) (λ one. one.undone ≡ false)) some.2 stand) in
-      let plays : echo.Plays typed inv found.0 (block steps inv) = rooms.run_plays typed store tx value answers inv found.0 found.1 found.2 in
-      let own : step.cell.object ≡ found.0.object = Each_at (λ (s : Step). s.cell.object ≡ found.0.object) (block steps inv) step plays.own (In_filter_from (λ (s : Step). s.inv == inv) steps step there.0 (eq-eqb step.inv inv some.2)) in
+      let repeatable : echo.IsRepeatable typed inv found.0 (block steps inv) = each_is_repeatable typed store tx value answers inv found.0 found.1 found.2 in
+      let own : step.cell.object ≡ found.0.object = Each_at (λ (s : Step). s.cell.object ≡ found.0.object) (block steps inv) step repeatable.own (In_filter_from (λ (s : Step). s.inv == inv) steps step there.0 (eq-eqb step.inv inv some.2)) in
       record {
         one = found.0;
         is = found.1;
-        same = trace_block steps object inv (subst (λ o. Each (λ (s : Step). s.cell.object ≡ o) (block steps inv)) (sym own ∙ there.1) plays.own);
-        does = plays.does;
+        same = trace_block steps object inv (subst (λ o. Each (λ (s : Step). s.cell.object ≡ o) (block steps inv)) (sym own ∙ there.1) repeatable.own);
+        does = repeatable.does;
       }
 
   each_member : Each (Member typed invocations steps t) (placing t).order

@@ -1,4 +1,4 @@
--- Invocations and steps of a state: what a change, a new one or an undoing leaves.
+-- Invocations and steps of a state: what is left by a change of one, a new one, or a try that undoes some.
 use Rattle.std.proofs.Common.{◌≡◌, ℕ, zero, suc, ◌<◌, ◌≤◌, true, cond, ◌==◌, List, [], ◌∷◌, ◌++◌, map, take, drop, length, Option, Some, None, refl, sym, ap, subst, ◌∙◌, arith}
 use Rattle.std.specs.Prelude.{slice_get, slice_set}
 use Rattle.std.specs.Option.{option_map_or}

@@ -1,4 +1,4 @@
--- Legal swaps keep what every read gives and what each cell holds at the end.
+-- Legal swaps keep what each read gives and what each cell holds at the end.
 use Rattle.std.proofs.Common.{◌≡◌, ℕ, Bool, true, false, cond, not, ◌&&◌, ◌||◌, List, ◌∷◌, refl, sym, ap, subst, ◌∙◌}
 use Rattle.std.proofs.lemmas.Bool.{both_ways, eq-eqb, ne_eqb, and_parts, and_from, or_left, false_from_ne_true}
 use Rattle.ecf_lang.specs.declared.cell.Cell.{Cell}

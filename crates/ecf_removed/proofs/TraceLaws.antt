@@ -1,4 +1,4 @@
--- The steps on one object, apart from the others.
+-- What steps do to an object depends on the object's cells alone.
 use Rattle.std.proofs.Common.{◌≡◌, ℕ, Bool, true, false, cond, ◌&&◌, eqb, ◌==◌, List, [], ◌∷◌, ◌⊎◌, inl, inr, refl, sym, ap, ◌∙◌}
 use Rattle.std.proofs.lemmas.Bool.{cases_eq, eq-eqb, ne_eqb, and_parts, false_from_ne_true}
 use Rattle.ecf_lang.specs.declared.cell.Cell.{Cell}

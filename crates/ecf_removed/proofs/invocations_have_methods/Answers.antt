@@ -1,4 +1,4 @@
-use Rattle.ecf_removed.proofs.RemovalLaws as proved
+use Rattle.ecf_removed.proofs.InvocationLaws as proved
 use Rattle.ecf_removed.proofs.invocations_have_methods.Goals as goal
 
 pub returns : goal.returns

@@ -1,4 +1,4 @@
-use Rattle.ecf_removed.proofs.RemovalLaws as proved
+use Rattle.ecf_removed.proofs.InvocationLaws as proved
 use Rattle.ecf_removed.proofs.invocations_repeat_alone.Goals as goal
 
 pub returns : goal.returns

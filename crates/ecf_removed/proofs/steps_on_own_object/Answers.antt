@@ -1,4 +1,4 @@
-use Rattle.ecf_removed.proofs.RemovalLaws as proved
+use Rattle.ecf_removed.proofs.InvocationLaws as proved
 use Rattle.ecf_removed.proofs.steps_on_own_object.Goals as goal
 
 pub returns : goal.returns
