@@ -153,19 +153,19 @@ mod tests {
         let contract = contract(alloc)?;
         let most = u128::MAX;
         assert!(rt; fits(&contract, &asks(alloc, 1, 1, 0, 0, &[most, 1, 1])?));
-        assert!(rt; fits(&contract, &asks(alloc, 1_000_000, 8, 1, 1, &[])?));
+        assert!(rt; fits(&contract, &asks(alloc, MAX_FUEL, MAX_CALLS, 1, 1, &[])?));
         assert!(rt;
             !fits(&contract, &asks(alloc, 0, 1, 0, 0, &[0, 0, 0])?),
             "no fuel"
         );
         assert!(rt;
-            !fits(&contract, &asks(alloc, 1_000_001, 1, 0, 0, &[0, 0, 0])?),
+            !fits(&contract, &asks(alloc, MAX_FUEL + 1, 1, 0, 0, &[0, 0, 0])?),
             "much fuel"
         );
         assert!(rt; !fits(&contract, &asks(alloc, 9, 0, 0, 0, &[])?), "no call");
         assert!(rt;
-            !fits(&contract, &asks(alloc, 9, 9, 1, 1, &[])?),
-            "nine calls"
+            !fits(&contract, &asks(alloc, 9, MAX_CALLS + 1, 1, 1, &[])?),
+            "many calls"
         );
         assert!(rt;
             !fits(&contract, &asks(alloc, 9, 1, 2, 0, &[0, 0, 0])?),
