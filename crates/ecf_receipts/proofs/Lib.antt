@@ -1,2 +1,2 @@
-pub mod Arguments
-pub mod Lines
+pub mod ArgumentLaws
+pub mod LineLaws

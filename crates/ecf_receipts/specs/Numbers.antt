@@ -15,5 +15,5 @@ pub record CountsOneMore (old new : BTreeMap ℕ ℕ) (submitter : ℕ) : Type 0
   pub counts : (q : ℕ) → count_of new q ≡ count_of old q + (if submitter == q then 1 else 0)
 
 -- the map counts the entries of each submitter
-pub record Counts (txs : List Tx) (entries : List Entry) (numbers : BTreeMap ℕ ℕ) : Type 0 where
+pub record CountsEntries (txs : List Tx) (entries : List Entry) (numbers : BTreeMap ℕ ℕ) : Type 0 where
   pub counts : (q : ℕ) → count_of numbers q ≡ count_by (is_of txs q) entries

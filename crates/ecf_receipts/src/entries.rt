@@ -1,9 +1,10 @@
 //! Appends the lines of entries to a text.
 
 ghost use Rattle.std.specs.Prelude.{◌≡◌, ◌++◌, map, OnOk};
+ghost use Rattle.std.specs.List.{flat_map};
 ghost use Rattle.std.specs.Option.{option_copied};
 ghost use Rattle.std.specs.Arc.{arc_value};
-ghost use Rattle.ecf_texts.specs.Entries.{request_text, call_text, tx_of, line_text, text_of_entries};
+ghost use Rattle.ecf_texts.specs.Entries.{callee_text, call_arguments_text, first_call_text, further_call_text, request_text, tx_of, line_text, text_of_entries};
 
 use crate::numbers::next_number;
 use crate::receipts::write_receipt;
@@ -79,29 +80,63 @@ fn write_request(
     ensures { OnOk result
         (text.new.items ≡ text.old.items ++ request_text typed.now limit calls.now) }
 {
-    match calls.first() {
-        Some(call) => write_call(text, typed, limit, call),
-        None => Ok(()),
-    }
+    let Some((call, further)) = calls.split_first() else {
+        return Ok(());
+    };
+    write_first_call(text, typed, limit, call)?;
+    write_further_calls(text, typed, further)
 }
 
-fn write_call(
+fn write_first_call(
     text: &mut Vec<u8>,
     typed: &Typed,
     limit: u32,
     call: &TxCall,
 ) -> Result<(), AllocError>
-    ensures { OnOk result (text.new.items ≡ text.old.items ++ call_text typed.now limit call.now) }
+    ensures { OnOk result
+        (text.new.items ≡ text.old.items ++ first_call_text typed.now limit call.now) }
+{
+    write_callee(text, typed, call)?;
+    text.push(b' ')?;
+    write_number(text, u128::from(limit))?;
+    write_call_arguments(text, typed, call)
+}
+
+fn write_further_calls(
+    text: &mut Vec<u8>,
+    typed: &Typed,
+    calls: &[TxCall],
+) -> Result<(), AllocError>
+    ensures { OnOk result
+        (text.new.items ≡ text.old.items ++ flat_map (further_call_text typed.now) calls.now) }
+{
+    for call in calls {
+        write_further_call(text, typed, call)?;
+    }
+    Ok(())
+}
+
+fn write_further_call(text: &mut Vec<u8>, typed: &Typed, further: &TxCall) -> Result<(), AllocError>
+    ensures { OnOk result
+        (text.new.items ≡ text.old.items ++ further_call_text typed.now further.now) }
+{
+    text.extend_from_slice(b" ; ")?;
+    write_callee(text, typed, further)?;
+    write_call_arguments(text, typed, further)
+}
+
+fn write_callee(text: &mut Vec<u8>, typed: &Typed, call: &TxCall) -> Result<(), AllocError>
+    ensures { OnOk result (text.new.items ≡ text.old.items ++ callee_text typed.now call.now) }
 {
     write_object(text, typed, usize::from(call.object))?;
     text.push(b' ')?;
-    write_method(text, typed, call.method)?;
-    text.push(b' ')?;
-    write_number(text, u128::from(limit))?;
-    write_arguments(
-        text,
-        typed,
-        params_of(typed, call.method),
-        call.args.as_slice(),
-    )
+    write_method(text, typed, call.method)
+}
+
+fn write_call_arguments(text: &mut Vec<u8>, typed: &Typed, call: &TxCall) -> Result<(), AllocError>
+    ensures { OnOk result
+        (text.new.items ≡ text.old.items ++ call_arguments_text typed.now call.now) }
+{
+    let params = params_of(typed, call.method);
+    write_arguments(text, typed, params, call.args.as_slice())
 }

@@ -2,9 +2,9 @@
 //! Whatever number names nothing of the contract is spelled by no bytes.
 #![tactic(auto)]
 
-ghost use Rattle.std.specs.Prelude.{◌≡◌, map, All, IfOk};
+ghost use Rattle.std.specs.Prelude.{◌≡◌, map, IfOk};
 ghost use Rattle.std.specs.Arc.{arc_value};
-ghost use Rattle.ecf_texts.specs.Entries.{OneCall, text_of_entries};
+ghost use Rattle.ecf_texts.specs.Entries.{text_of_entries};
 ghost use Rattle.ecf_texts.specs.Journal.{tail_text, journal_text};
 
 mod cells;
@@ -31,7 +31,6 @@ pub fn print_entries(
     entries: &[Entry],
     from: usize,
 ) -> Result<Vec<u8>, AllocError>
-    requires { All OneCall (map arc_value txs.now) }
     ensures { IfOk result (λ text.
         text.items ≡ text_of_entries typed.now (map arc_value txs.now) entries.now from) }
 {
@@ -64,7 +63,6 @@ pub fn print_journal(
     stop: Option<Stop>,
     cells: &[(Cell, u128)],
 ) -> Result<Vec<u8>, AllocError>
-    requires { All OneCall (map arc_value txs.now) }
     ensures { IfOk result (λ text.
         text.items ≡ journal_text typed.now (map arc_value txs.now) entries.now stop cells.now) }
 {

@@ -47,6 +47,11 @@ pub fn write_receipt(text: &mut Vec<u8>, typed: &Typed, receipt: &Receipt) -> Re
             write_numbers(text, cycle.as_slice())?;
             write_fuel(text, *fuel)
         }
+        Receipt::Barred { watch, fuel } => {
+            text.extend_from_slice(b"barred ")?;
+            write_number(text, u128::from(*watch))?;
+            write_fuel(text, *fuel)
+        }
     }
 }
 

@@ -1,9 +1,5 @@
 //! Whole journals, written by hand, against what is printed.
 
-ghost use Rattle.std.specs.Prelude.{map, All, IfOk};
-ghost use Rattle.std.specs.Arc.{arc_value};
-ghost use Rattle.ecf_texts.specs.Entries.{OneCall};
-
 use crate::{print_entries, print_journal, print_tail};
 use ecf_lang::cell::Cell;
 use ecf_lang::name::Name;
@@ -64,9 +60,35 @@ const BANK_CASH: Cell = Cell {
     key: 0,
 };
 
-/// A transaction of one call: submitter, object, method, limit and arguments.
+/// The objects with their fields.
+const OBJECTS: [(&str, &[(&str, FieldKind)]); 4] = [
+    ("Counter", &[("n", FieldKind::Plain(Ty::Num))]),
+    (
+        "Bank",
+        &[
+            ("owed", FieldKind::Map(Ty::Num, Ty::Num)),
+            ("cash", FieldKind::Plain(Ty::Num)),
+        ],
+    ),
+    ("Thief", &[]),
+    ("A", &[]),
+];
+
+/// The names of methods with the types of their parameters.
+const METHODS: [(&str, &[Ty]); 4] = [
+    ("bump", &[]),
+    ("withdraw", &[Ty::Addr]),
+    ("go", &[]),
+    ("set", &[Ty::Num, Ty::Flag, Ty::Addr, Ty::Flag]),
+];
+
+/// A call: object, method and arguments.
 #[derive(Clone, Copy)]
-struct Request<'a>(u32, u8, u16, u32, &'a [u128]);
+struct Call<'a>(u8, u16, &'a [u128]);
+
+/// A transaction: submitter, limit and calls.
+#[derive(Clone, Copy)]
+struct Request<'a>(u32, u32, &'a [Call<'a>]);
 
 /// A receipt over borrowed lists.
 #[derive(Clone, Copy)]
@@ -75,6 +97,7 @@ enum End<'a> {
     Reverted(Cause, u32),
     OutOfFuel(u32),
     Vetoed(u8, u32, &'a [u16], u32),
+    Barred(u16, u32),
 }
 
 /// A journal as data, and as text: a line for each entry, and what stands after them.
@@ -89,60 +112,42 @@ struct Case<'a> {
     tail: &'a str,
 }
 
-fn field(alloc: Global, name: &[u8], kind: FieldKind) -> Result<TypedField, AllocError> {
-    Ok(TypedField {
-        name: Name::from_slice(alloc, name)?,
-        kind,
-        first: Items::new(alloc),
-    })
-}
-
 fn object(
     alloc: Global,
-    name: &[u8],
-    fields: Items<TypedField>,
+    name: &str,
+    fields: &[(&str, FieldKind)],
 ) -> Result<TypedObject, AllocError> {
+    let mut typed_fields = Items::new(alloc);
+    for (name, kind) in fields {
+        typed_fields.push(TypedField {
+            name: Name::from_slice(alloc, name.as_bytes())?,
+            kind: *kind,
+            first: Items::new(alloc),
+        })?;
+    }
     Ok(TypedObject {
-        name: Name::from_slice(alloc, name)?,
-        fields,
+        name: Name::from_slice(alloc, name.as_bytes())?,
+        fields: typed_fields,
         methods: Items::new(alloc),
     })
 }
 
-fn signature(alloc: Global, params: &[Ty]) -> Result<Signature, AllocError> {
-    Ok(Signature {
-        params: Items::from_slice(alloc, params)?,
-        answer: Ty::Num,
-    })
-}
-
-fn objects(alloc: Global) -> Result<Items<TypedObject>, AllocError> {
-    let mut counter = Items::new(alloc);
-    counter.push(field(alloc, b"n", FieldKind::Plain(Ty::Num))?)?;
-    let mut bank = Items::new(alloc);
-    bank.push(field(alloc, b"owed", FieldKind::Map(Ty::Num, Ty::Num))?)?;
-    bank.push(field(alloc, b"cash", FieldKind::Plain(Ty::Num))?)?;
-    let mut objects = Items::new(alloc);
-    objects.push(object(alloc, b"Counter", counter)?)?;
-    objects.push(object(alloc, b"Bank", bank)?)?;
-    objects.push(object(alloc, b"Thief", Items::new(alloc))?)?;
-    objects.push(object(alloc, b"A", Items::new(alloc))?)?;
-    Ok(objects)
-}
-
 fn contract(alloc: Global) -> Result<Typed, AllocError> {
+    let mut objects = Items::new(alloc);
+    for (name, fields) in &OBJECTS {
+        objects.push(object(alloc, name, fields)?)?;
+    }
     let mut names = Items::new(alloc);
     let mut signatures = Items::new(alloc);
-    names.push(Name::from_slice(alloc, b"bump")?)?;
-    signatures.push(signature(alloc, &[])?)?;
-    names.push(Name::from_slice(alloc, b"withdraw")?)?;
-    signatures.push(signature(alloc, &[Ty::Addr])?)?;
-    names.push(Name::from_slice(alloc, b"go")?)?;
-    signatures.push(signature(alloc, &[])?)?;
-    names.push(Name::from_slice(alloc, b"set")?)?;
-    signatures.push(signature(alloc, &[Ty::Num, Ty::Flag, Ty::Addr, Ty::Flag])?)?;
+    for (name, params) in &METHODS {
+        names.push(Name::from_slice(alloc, name.as_bytes())?)?;
+        signatures.push(Signature {
+            params: Items::from_slice(alloc, params)?,
+            answer: Ty::Num,
+        })?;
+    }
     Ok(Typed {
-        objects: objects(alloc)?,
+        objects,
         names,
         signatures,
     })
@@ -174,20 +179,20 @@ fn receipt(alloc: Global, end: End<'_>) -> Result<Receipt, AllocError> {
             cycle: Items::from_slice(alloc, cycle)?,
             fuel,
         },
+        End::Barred(watch, fuel) => Receipt::Barred { watch, fuel },
     })
 }
 
-fn transaction(alloc: Global, request: &Request<'_>) -> Result<TxRef, AllocError>
-    ensures { IfOk result (λ tx. OneCall (arc_value tx)) }
-{
-    let Request(submitter, object, method, fuel, args) = *request;
-    let args = Items::from_slice(alloc, args)?;
+fn transaction(alloc: Global, request: &Request<'_>) -> Result<TxRef, AllocError> {
+    let Request(submitter, fuel, given) = *request;
     let mut calls = Items::new(alloc);
-    calls.push(TxCall {
-        object,
-        method,
-        args,
-    })?;
+    for Call(object, method, args) in given {
+        calls.push(TxCall {
+            object: *object,
+            method: *method,
+            args: Items::from_slice(alloc, args)?,
+        })?;
+    }
     let tx = Tx {
         submitter,
         fuel,
@@ -196,9 +201,7 @@ fn transaction(alloc: Global, request: &Request<'_>) -> Result<TxRef, AllocError
     Ok(Arc::new(alloc, tx)?)
 }
 
-fn transactions(alloc: Global, requests: &[Request<'_>]) -> Result<Vec<TxRef>, AllocError>
-    ensures { IfOk result (λ txs. All OneCall (map arc_value txs.items)) }
-{
+fn transactions(alloc: Global, requests: &[Request<'_>]) -> Result<Vec<TxRef>, AllocError> {
     let mut txs = Vec::new(alloc);
     for request in requests {
         txs.push(transaction(alloc, request)?)?;
@@ -217,7 +220,7 @@ fn entries(alloc: Global, ends: &[(u32, End<'_>)]) -> Result<Vec<Entry>, AllocEr
     Ok(entries)
 }
 
-const CASES: [Case<'static>; 14] = [
+const CASES: [Case<'static>; 11] = [
     Case {
         requests: &[],
         ends: &[],
@@ -227,7 +230,7 @@ const CASES: [Case<'static>; 14] = [
         tail: "end\n",
     },
     Case {
-        requests: &[Request(1, COUNTER, BUMP, 100, &[])],
+        requests: &[Request(1, 100, &[Call(COUNTER, BUMP, &[])])],
         ends: &[(0, End::Committed(1, 14, &[]))],
         stop: None,
         cells: &[(COUNTER_N, 1)],
@@ -235,7 +238,7 @@ const CASES: [Case<'static>; 14] = [
         tail: "end\nCounter.n = 1\n",
     },
     Case {
-        requests: &[Request(1, BANK, WITHDRAW, 1000, &[2])],
+        requests: &[Request(1, 1000, &[Call(BANK, WITHDRAW, &[2])])],
         ends: &[(0, End::Vetoed(BANK, 8, &[0, 2], 136))],
         stop: None,
         cells: &[(BANK_OWED_1, 5), (BANK_CASH, 20)],
@@ -244,8 +247,8 @@ const CASES: [Case<'static>; 14] = [
     },
     Case {
         requests: &[
-            Request(1, BANK, WITHDRAW, 1000, &[2]),
-            Request(1, COUNTER, BUMP, 13, &[]),
+            Request(1, 1000, &[Call(BANK, WITHDRAW, &[2])]),
+            Request(1, 13, &[Call(COUNTER, BUMP, &[])]),
         ],
         ends: &[
             (
@@ -267,12 +270,12 @@ const CASES: [Case<'static>; 14] = [
     },
     Case {
         requests: &[
-            Request(1, PLAIN, GO, 200, &[]),
-            Request(1, PLAIN, GO, 200, &[]),
-            Request(1, PLAIN, GO, 200, &[]),
-            Request(1, PLAIN, GO, 200, &[]),
-            Request(1, PLAIN, GO, 200, &[]),
-            Request(1, PLAIN, GO, 200, &[]),
+            Request(1, 200, &[Call(PLAIN, GO, &[])]),
+            Request(1, 200, &[Call(PLAIN, GO, &[])]),
+            Request(1, 200, &[Call(PLAIN, GO, &[])]),
+            Request(1, 200, &[Call(PLAIN, GO, &[])]),
+            Request(1, 200, &[Call(PLAIN, GO, &[])]),
+            Request(1, 200, &[Call(PLAIN, GO, &[])]),
         ],
         ends: &[
             (0, End::Reverted(Cause::User(9), 54)),
@@ -299,11 +302,11 @@ const CASES: [Case<'static>; 14] = [
     },
     Case {
         requests: &[
-            Request(7, COUNTER, BUMP, 1, &[]),
-            Request(0, COUNTER, BUMP, 20, &[]),
-            Request(4294967295, COUNTER, BUMP, 1000000, &[]),
-            Request(7, COUNTER, BUMP, 4, &[]),
-            Request(7, COUNTER, BUMP, 5, &[]),
+            Request(7, 1, &[Call(COUNTER, BUMP, &[])]),
+            Request(0, 20, &[Call(COUNTER, BUMP, &[])]),
+            Request(4294967295, 1000000, &[Call(COUNTER, BUMP, &[])]),
+            Request(7, 4, &[Call(COUNTER, BUMP, &[])]),
+            Request(7, 5, &[Call(COUNTER, BUMP, &[])]),
         ],
         ends: &[
             (1, End::Committed(1, 14, &[])),
@@ -327,7 +330,7 @@ const CASES: [Case<'static>; 14] = [
         tail: "stop 12 form\nend\nCounter.n = 2\n",
     },
     Case {
-        requests: &[Request(1, PLAIN, SET, 10, &[u128::MAX, 1, 0, 0])],
+        requests: &[Request(1, 10, &[Call(PLAIN, SET, &[u128::MAX, 1, 0, 0])])],
         ends: &[(0, End::Committed(u128::MAX, 10, &[]))],
         stop: None,
         cells: &[(BANK_OWED_0, 1), (BANK_OWED_LAST, u128::MAX)],
@@ -337,7 +340,7 @@ const CASES: [Case<'static>; 14] = [
         tail: "end\nBank.owed[0] = 1\nBank.owed[340282366920938463463374607431768211455] = 340282366920938463463374607431768211455\n",
     },
     Case {
-        requests: &[Request(1, PLAIN, GO, 200, &[])],
+        requests: &[Request(1, 200, &[Call(PLAIN, GO, &[])])],
         ends: &[(0, End::Reverted(Cause::User(u128::MAX), 54))],
         stop: Some(Stop {
             line: 4294967295,
@@ -350,71 +353,81 @@ const CASES: [Case<'static>; 14] = [
         tail: "stop 4294967295 object\nend\n",
     },
     Case {
-        requests: &[],
-        ends: &[],
-        stop: Some(Stop {
-            line: 1,
-            cause: StopCause::Fuel,
-        }),
+        requests: &[
+            Request(1, 300, &[Call(COUNTER, BUMP, &[]), Call(PLAIN, GO, &[])]),
+            Request(
+                1,
+                1000,
+                &[
+                    Call(PLAIN, SET, &[5, 0, 3, 1]),
+                    Call(BANK, WITHDRAW, &[2]),
+                    Call(COUNTER, BUMP, &[]),
+                ],
+            ),
+        ],
+        ends: &[
+            (1, End::Vetoed(BANK, 8, &[1, 3], 250)),
+            (0, End::Committed(0, 30, &[(COUNTER, &[0, 1])])),
+        ],
+        stop: None,
         cells: &[],
-        lines: &[],
-        tail: "stop 1 fuel\nend\n",
+        lines: &[
+            "1 1.1 A set 1000 5 false A true ; Bank withdraw Thief ; Counter bump -> vetoed Bank at 8 cycle 1 3 fuel 250\n",
+            "2 1.2 Counter bump 300 ; A go -> committed 0 fuel 30 order Counter 0 1\n",
+        ],
+        tail: "end\n",
     },
     Case {
-        requests: &[],
-        ends: &[],
-        stop: Some(Stop {
-            line: 2,
-            cause: StopCause::Arity,
-        }),
-        cells: &[],
-        lines: &[],
-        tail: "stop 2 arity\nend\n",
+        requests: &[Request(1, 100, &[Call(COUNTER, BUMP, &[])])],
+        ends: &[(0, End::Barred(0, 14)), (0, End::Barred(65535, 1000000))],
+        stop: None,
+        cells: &[(COUNTER_N, 2)],
+        lines: &[
+            "1 1.1 Counter bump 100 -> barred 0 fuel 14\n",
+            "2 1.2 Counter bump 100 -> barred 65535 fuel 1000000\n",
+        ],
+        tail: "end\nCounter.n = 2\n",
     },
     Case {
-        requests: &[],
-        ends: &[],
-        stop: Some(Stop {
-            line: 3,
-            cause: StopCause::Arg,
-        }),
+        requests: &[Request(
+            9,
+            8,
+            &[
+                Call(COUNTER, BUMP, &[]),
+                Call(COUNTER, BUMP, &[]),
+                Call(COUNTER, BUMP, &[]),
+                Call(COUNTER, BUMP, &[]),
+                Call(COUNTER, BUMP, &[]),
+                Call(COUNTER, BUMP, &[]),
+                Call(COUNTER, BUMP, &[]),
+                Call(PLAIN, SET, &[7, 1, 1, 0]),
+            ],
+        )],
+        ends: &[(0, End::OutOfFuel(8))],
+        stop: None,
         cells: &[],
-        lines: &[],
-        tail: "stop 3 arg\nend\n",
+        lines: &[
+            "1 9.1 Counter bump 8 ; Counter bump ; Counter bump ; Counter bump ; Counter bump ; Counter bump ; Counter bump ; A set 7 true Bank false -> outoffuel fuel 8\n",
+        ],
+        tail: "end\n",
     },
-    Case {
-        requests: &[],
-        ends: &[],
-        stop: Some(Stop {
-            line: 4,
-            cause: StopCause::Long,
-        }),
-        cells: &[],
-        lines: &[],
-        tail: "stop 4 long\nend\n",
-    },
-    Case {
-        requests: &[],
-        ends: &[],
-        stop: Some(Stop {
-            line: 5,
-            cause: StopCause::Many,
-        }),
-        cells: &[],
-        lines: &[],
-        tail: "stop 5 many\nend\n",
-    },
-    Case {
-        requests: &[],
-        ends: &[],
-        stop: Some(Stop {
-            line: 6,
-            cause: StopCause::Bytes,
-        }),
-        cells: &[],
-        lines: &[],
-        tail: "stop 6 bytes\nend\n",
-    },
+];
+
+const STOPS: [(u32, StopCause, &str); 10] = [
+    (12, StopCause::Form, "stop 12 form\nend\n"),
+    (
+        4294967295,
+        StopCause::Object,
+        "stop 4294967295 object\nend\n",
+    ),
+    (3, StopCause::Method, "stop 3 method\nend\n"),
+    (1, StopCause::Fuel, "stop 1 fuel\nend\n"),
+    (2, StopCause::Arity, "stop 2 arity\nend\n"),
+    (3, StopCause::Arg, "stop 3 arg\nend\n"),
+    (4, StopCause::Long, "stop 4 long\nend\n"),
+    (5, StopCause::Many, "stop 5 many\nend\n"),
+    (6, StopCause::Bytes, "stop 6 bytes\nend\n"),
+    (3, StopCause::Read, "stop 3 read\nend\n"),
 ];
 
 fn check_entries(
@@ -424,13 +437,15 @@ fn check_entries(
     txs: &[TxRef],
     entries: &[Entry],
     case: &Case<'_>,
-) -> Result<(), AllocError>
-    requires { All OneCall (map arc_value txs.now) }
-{
+) -> Result<(), AllocError> {
     for from in 0..=case.lines.len() {
         let text = print_entries(alloc, typed, txs, entries, from)?;
         let want = case.lines[from..].concat(alloc)?;
         assert!(rt; text.as_slice() == want.as_bytes(), "from {from}: {want}");
+    }
+    for from in [entries.len(), entries.len() + 1, usize::MAX] {
+        let text = print_entries(alloc, typed, txs, entries, from)?;
+        assert!(rt; text.is_empty(), "from {from}");
     }
     Ok(())
 }
@@ -451,6 +466,18 @@ fn prints_journals_written_by_hand(rt: HostRuntime) -> Result<(), Fail> {
         let mut want = case.lines.concat(alloc)?;
         want.push_str(case.tail)?;
         assert!(rt; journal.as_slice() == want.as_bytes(), "{want}");
+    }
+    Ok(())
+}
+
+#[test]
+fn prints_stops(rt: HostRuntime) -> Result<(), Fail> {
+    let alloc = rt.alloc();
+    let typed = contract(alloc)?;
+    for (line, cause, want) in STOPS {
+        let stop = Some(Stop { line, cause });
+        let text = print_tail(alloc, &typed, stop, &[])?;
+        assert!(rt; text.as_slice() == want.as_bytes(), "{want}");
     }
     Ok(())
 }

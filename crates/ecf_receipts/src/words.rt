@@ -1,7 +1,8 @@
 //! Appends names and values to a text.
 
 ghost use Rattle.std.specs.Prelude.{◌≡◌, ◌++◌, OnOk, codes, decimal};
-ghost use Rattle.ecf_texts.specs.Words.{object_name, method_name, value_word, params_of, arguments_text};
+ghost use Rattle.ecf_lang.specs.Signatures.{params_of};
+ghost use Rattle.ecf_texts.specs.Words.{object_name, method_name, value_word, arguments_text};
 
 use ecf_lang::name::Name;
 use ecf_lang::tree::Ty;

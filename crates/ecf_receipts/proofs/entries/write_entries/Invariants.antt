@@ -1,6 +1,6 @@
 use Rattle.std.proofs.Common.{map}
 use Rattle.std.specs.Arc.{arc_value}
-use Rattle.ecf_receipts.proofs.Lines.{Printed}
+use Rattle.ecf_receipts.proofs.LineLaws.{Printed}
 use Rattle.ecf_receipts.proofs.entries.write_entries.Given as goal
 
 abbrev pub invariant-loop-index : goal.invariant-loop-index

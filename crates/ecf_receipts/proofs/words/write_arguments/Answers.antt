@@ -1,6 +1,6 @@
 use Rattle.std.proofs.Common.{None, refl}
 use Rattle.std.proofs.lemmas.Slice.Zip.{either_empty_from_Zip}
-use Rattle.ecf_receipts.proofs.Arguments.{all_written}
+use Rattle.ecf_receipts.proofs.ArgumentLaws.{all_written}
 use Rattle.ecf_receipts.proofs.words.write_arguments.Goals as goal
 
 pub returns : goal.returns
