@@ -92,7 +92,7 @@ tries = cell 1 1 0
 abbrev pub withdraw : Tx
 withdraw = transaction 1000 (tx_call 0 0 (1 ∷ []) ∷ [])
 
--- where the bank clears first, the thief is paid once
+-- the thief is paid once
 abbrev pub withdraw_result : RunResult
 withdraw_result = record {
   outcome = Answer 5;

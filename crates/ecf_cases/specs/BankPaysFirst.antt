@@ -93,7 +93,7 @@ tries = cell 1 1 0
 abbrev pub withdraw : Tx
 withdraw = transaction 1000 (tx_call 0 0 (1 ∷ []) ∷ [])
 
--- where the bank pays first, the thief is paid twice
+-- the thief is paid twice
 abbrev pub withdraw_result : RunResult
 withdraw_result = record {
   outcome = Answer 5;

@@ -96,7 +96,7 @@ go_with_20_result = record {
 abbrev pub WantOfFuelPasses : Type 0
 WantOfFuelPasses = run caught_revert [] go_with_20 ≡ go_with_20_result
 
--- the verdict on its steps
+-- where the revert is caught: the verdict on the steps
 abbrev pub StepsApproved : Type 0
 StepsApproved = verdict go_result.steps ≡ Approved []
 

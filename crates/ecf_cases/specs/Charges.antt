@@ -160,7 +160,8 @@ charges = contract
     ∷ signature [] Num ∷ signature [] Num ∷ signature [] Flag ∷ signature [] Flag ∷ signature [] Flag ∷ signature [] Flag
     ∷ signature [] Num ∷ signature [] Num ∷ signature [] Num ∷ signature [] Num ∷ signature [] Num ∷ signature (Num ∷ []) Num
     ∷ signature [] Num ∷ [])
-    (object (with_first ((0, 7) ∷ []) num_field ∷ with_first ((0, 8) ∷ []) num_field ∷ with_first ((0, 1) ∷ []) flag_field ∷ map_field Num Num ∷ []) (
+    (object
+    (with_first ((0, 7) ∷ []) num_field ∷ with_first ((0, 8) ∷ []) num_field ∷ with_first ((0, 1) ∷ []) flag_field ∷ map_field Num Num ∷ []) (
     method 0 1 charges_keep
     ∷ method 1 1 charges_keep_again
     ∷ method 2 0 charges_set

@@ -56,7 +56,10 @@ cycle_of_three_second = call_only (object_name 0) 2 [] ∷ returns (num 0) ∷ [
 abbrev pub cycle_of_three : Typed
 cycle_of_three = contract
     (signature [] Num ∷ signature [] Num ∷ signature [] Num ∷ signature [] Num ∷ signature [] Num ∷ [])
-    (object (num_field ∷ num_field ∷ num_field ∷ []) (method 0 0 cycle_of_three_go ∷ method 1 0 cycle_of_three_one ∷ method 2 0 cycle_of_three_two ∷ [])
+    (object (num_field ∷ num_field ∷ num_field ∷ []) (
+    method 0 0 cycle_of_three_go
+    ∷ method 1 0 cycle_of_three_one
+    ∷ method 2 0 cycle_of_three_two ∷ [])
     ∷ object [] (method 3 0 cycle_of_three_first ∷ method 4 0 cycle_of_three_second ∷ []) ∷ [])
 
 -- x of A

@@ -46,7 +46,9 @@ logic_three =
 -- choose of L
 abbrev pub logic_choose : List TypedStmt
 logic_choose =
-    choose (arm (compare (local 0) Eq (num 0)) (returns (num 10) ∷ []) ∷ arm (compare (local 0) Eq (num 1)) (set_field 0 (num 20) ∷ []) ∷ []) (otherwise (set_field 0 (num 30) ∷ []))
+    choose
+    (arm (compare (local 0) Eq (num 0)) (returns (num 10) ∷ []) ∷ arm (compare (local 0) Eq (num 1)) (set_field 0 (num 20) ∷ []) ∷ [])
+    (otherwise (set_field 0 (num 30) ∷ []))
     ∷ returns (field 0)
     ∷ []
 

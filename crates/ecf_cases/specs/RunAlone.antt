@@ -34,7 +34,7 @@ second_withdrawal = record {
 abbrev pub SecondOfBank : Type 0
 SecondOfBank = alone bank_clears_first 2 (invocation 0 0 (1 ∷ []) (Some 0) (0 ∷ []) 38) ((cash, 15) ∷ []) ≡ second_withdrawal
 
--- the first receipt, on no cells
+-- the first call of receive, on no cells
 abbrev pub first_receiving : Lone
 first_receiving = record {
   outcome = Answer 0;
@@ -46,7 +46,7 @@ first_receiving = record {
 abbrev pub FirstOfThief : Type 0
 FirstOfThief = alone bank_clears_first 1 (invocation 1 1 (5 ∷ []) (Some 0) (0 ∷ []) 42) [] ≡ first_receiving
 
--- the second receipt, on the cells that the first left
+-- the second call of receive, on the cells that the first left
 abbrev pub second_receiving : Lone
 second_receiving = record {
   outcome = Answer 0;

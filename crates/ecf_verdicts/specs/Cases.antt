@@ -46,7 +46,9 @@ TwoObjects = (verdict two_objects ≡ Vetoed 0 3 (1 ∷ 3 ∷ [])) × (Free (tra
 
 -- two cycles that meet: the walk from the least meets the later one first
 abbrev pub two_cycles : List Step
-two_cycles = write_step 6 x 1 ∷ write_step 2 x 1 ∷ write_step 6 x 1 ∷ write_step 4 y 1 ∷ write_step 6 y 1 ∷ write_step 0 z 1 ∷ write_step 4 z 1 ∷ write_step 0 z 1 ∷ []
+two_cycles =
+    write_step 6 x 1 ∷ write_step 2 x 1 ∷ write_step 6 x 1 ∷ write_step 4 y 1 ∷ write_step 6 y 1 ∷
+    write_step 0 z 1 ∷ write_step 4 z 1 ∷ write_step 0 z 1 ∷ []
 
 abbrev pub TwoCycles : Type 0
 TwoCycles = (verdict two_cycles ≡ Vetoed 0 3 (0 ∷ 4 ∷ [])) × (Free (trace two_cycles 0) → ⊥)
