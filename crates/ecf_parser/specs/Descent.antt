@@ -22,22 +22,22 @@ use Rattle.ecf_lang.specs.declared.tree.Member.TheVariants as m
 use Rattle.ecf_lang.specs.declared.tree.ObjectDecl.{ObjectDecl}
 use Rattle.ecf_lang.specs.declared.tree.Tree.{Tree}
 use Rattle.ecf_grammar.specs.Spells.{either_of, both_of, sum_of, product_of, comparison_op, sum_op, product_op}
-use Rattle.ecf_parser.specs.Parsers.{Parser, ◌>>=◌, pure, refuse, choose, when, is_sign, is_word, sign, word, name, number, eat_sign, eat_word, operator, fix, each, chain, until, listed}
+use Rattle.ecf_parser.specs.Parsers.{Parser, ◌>>=◌, pure, refuse, choose, when, is_sign, is_word, sign, word, name, number, eat_sign, eat_word, operator, fix, each, chain, until, list_of}
 
 -- ---- expressions, over the reader of those in brackets
 
 module _ (expr : Parser Expr) where
   unfoldable pub arguments : Parser (List Expr)
-  arguments = sign s.OpenParen >>= (λ _. listed s.Comma s.CloseParen expr >>= (λ args. sign s.CloseParen >>= (λ _. pure args)))
+  arguments = sign s.OpenParen >>= (λ _. list_of s.Comma s.CloseParen expr >>= (λ args. sign s.CloseParen >>= (λ _. pure args)))
 
   -- behind a name
-  abbrev pub indexed : ℕ × List ℕ → Bool → Parser Expr
-  indexed n true = expr >>= (λ key. sign s.CloseBracket >>= (λ _. pure (e.At n.0 n.1 key)))
-  indexed n false = pure (e.Name n.0 n.1)
+  abbrev pub index_by : ℕ × List ℕ → Bool → Parser Expr
+  index_by n true = expr >>= (λ key. sign s.CloseBracket >>= (λ _. pure (e.At n.0 n.1 key)))
+  index_by n false = pure (e.Name n.0 n.1)
 
   abbrev pub target_by : Option Kind → Parser Expr
   target_by (Some (kind.Word w.Here)) = word w.Here >>= (λ at. pure (e.Here at))
-  target_by (Some kind.Name) = name >>= (λ n. eat_sign s.OpenBracket >>= indexed n)
+  target_by (Some kind.Name) = name >>= (λ n. eat_sign s.OpenBracket >>= index_by n)
   target_by (Some (kind.Sign s.OpenParen)) = sign s.OpenParen >>= (λ _. expr >>= (λ inner. sign s.CloseParen >>= (λ _. pure inner)))
   target_by _ = refuse
 
@@ -80,12 +80,12 @@ module _ (expr : Parser Expr) where
   unfoldable pub sum : Parser Expr
   sum = product >>= (λ first. chain sum_op product >>= (λ rest. pure (sum_of first rest)))
 
-  abbrev pub compared : Expr → Option Op → Parser Expr
-  compared left None = pure left
-  compared left (Some o) = sum >>= (λ right. pure (e.Compare left o right))
+  abbrev pub comparison_by : Expr → Option Op → Parser Expr
+  comparison_by left None = pure left
+  comparison_by left (Some o) = sum >>= (λ right. pure (e.Compare left o right))
 
   unfoldable pub comparison : Parser Expr
-  comparison = sum >>= (λ left. operator comparison_op >>= compared left)
+  comparison = sum >>= (λ left. operator comparison_op >>= comparison_by left)
 
   unfoldable pub both : Parser Expr
   both = comparison >>= (λ first. each s.And comparison >>= (λ rest. pure (both_of first rest)))
@@ -127,8 +127,8 @@ unfoldable pub set : Parser Stmt
 set = name >>= (λ n. eat_sign s.OpenBracket >>= set_by n)
 
 -- an expression and the `;` behind it
-unfoldable pub closed : Parser Expr
-closed = expr >>= (λ x. sign s.Semicolon >>= (λ _. pure x))
+unfoldable pub expr_semicolon : Parser Expr
+expr_semicolon = expr >>= (λ x. sign s.Semicolon >>= (λ _. pure x))
 
 module _ (block : Parser Block) where
   unfoldable pub arm : Parser (Expr × Block)
@@ -160,18 +160,18 @@ module _ (block : Parser Block) where
   stmt_by (Some kind.Name) = set
   stmt_by (Some (kind.Word w.If)) = if_
   stmt_by (Some (kind.Word w.While)) = while
-  stmt_by (Some (kind.Word w.Return)) = word w.Return >>= (λ _. closed >>= (λ x. pure (st.Return x)))
-  stmt_by (Some (kind.Word w.Revert)) = word w.Revert >>= (λ _. closed >>= (λ x. pure (st.Revert x)))
+  stmt_by (Some (kind.Word w.Return)) = word w.Return >>= (λ _. expr_semicolon >>= (λ x. pure (st.Return x)))
+  stmt_by (Some (kind.Word w.Revert)) = word w.Revert >>= (λ _. expr_semicolon >>= (λ x. pure (st.Revert x)))
   stmt_by _ = invoke expr >>= (λ called. sign s.Semicolon >>= (λ _. pure (st.Do called)))
 
   unfoldable pub stmt : Parser Stmt
   stmt = choose stmt_by
 
-  unfoldable pub braced : Parser Block
-  braced = sign s.OpenBrace >>= (λ _. until (is_sign s.CloseBrace) stmt >>= (λ stmts. sign s.CloseBrace >>= (λ _. pure (roll-Block (record { stmts = stmts })))))
+  unfoldable pub one_block : Parser Block
+  one_block = sign s.OpenBrace >>= (λ _. until (is_sign s.CloseBrace) stmt >>= (λ stmts. sign s.CloseBrace >>= (λ _. pure (roll-Block (record { stmts = stmts })))))
 
 unfoldable pub block : Parser Block
-block = fix braced
+block = fix one_block
 
 -- ---- members, objects, files
 
@@ -198,7 +198,7 @@ unfoldable pub first : Parser (Option Const)
 first = eat_sign s.Assign >>= first_by
 
 abbrev pub entries_by : Bool → Parser (List (Const × Const))
-entries_by true = sign s.OpenBrace >>= (λ _. listed s.Comma s.CloseBrace entry >>= (λ pairs. sign s.CloseBrace >>= (λ _. pure pairs)))
+entries_by true = sign s.OpenBrace >>= (λ _. list_of s.Comma s.CloseBrace entry >>= (λ pairs. sign s.CloseBrace >>= (λ _. pure pairs)))
 entries_by false = pure []
 
 unfoldable pub entries : Parser (List (Const × Const))
@@ -211,7 +211,7 @@ unfoldable pub map : Parser Member
 map = word w.Map >>= (λ _. name >>= (λ n. sign s.Colon >>= (λ _. type_ >>= (λ key. sign s.Arrow >>= (λ _. type_ >>= (λ v. entries >>= (λ pairs. sign s.Semicolon >>= (λ _. pure (m.Map n.0 n.1 key v pairs)))))))))
 
 unfoldable pub method : Parser Member
-method = word w.Method >>= (λ _. name >>= (λ n. sign s.OpenParen >>= (λ _. listed s.Comma s.CloseParen param >>= (λ params. sign s.CloseParen >>= (λ _. sign s.Colon >>= (λ _. type_ >>= (λ answer. block >>= (λ body. pure (m.Method n.0 n.1 params answer body)))))))))
+method = word w.Method >>= (λ _. name >>= (λ n. sign s.OpenParen >>= (λ _. list_of s.Comma s.CloseParen param >>= (λ params. sign s.CloseParen >>= (λ _. sign s.Colon >>= (λ _. type_ >>= (λ answer. block >>= (λ body. pure (m.Method n.0 n.1 params answer body)))))))))
 
 abbrev pub member_by : Option Kind → Parser Member
 member_by (Some (kind.Word w.Map)) = map

@@ -1,6 +1,6 @@
 pub mod Parsers
 pub mod Descent
-pub mod Ahead
-pub mod Outcome
+pub mod CursorView
+pub mod Parses
 pub mod FirstDeep
-pub mod Refuses
+pub mod SyntaxFault

@@ -8,17 +8,17 @@ use Rattle.ecf_grammar.specs.declared.tokens.Kind.TheVariants as kind
 use Rattle.ecf_grammar.specs.declared.tokens.Word.{Word}
 use Rattle.ecf_grammar.specs.declared.tokens.Sign.{Sign}
 use Rattle.ecf_lang.specs.declared.tree.Op.{Op}
-use Rattle.ecf_grammar.specs.Lexemes.{Lexeme, Numbered}
+use Rattle.ecf_grammar.specs.Lexemes.{Lexeme, NumberedLexemes}
 use Rattle.ecf_grammar.specs.Lexemes.Lexeme.{NameOf, NumberOf, WordOf, SignOf}
 
 -- what is read and the lexemes behind it, or the lexemes from the first on that is out of place
-abbrev pub Outcome : Type 0 → Type 0
-Outcome A = Result (A × Numbered) Numbered
+abbrev pub Parse : Type 0 → Type 0
+Parse A = Result (A × NumberedLexemes) NumberedLexemes
 
 abbrev pub Parser : Type 0 → Type 0
-Parser A = Numbered → Outcome A
+Parser A = NumberedLexemes → Parse A
 
-abbrev pub and_then : {A B : Type 0} → Outcome A → (A → Parser B) → Outcome B
+abbrev pub and_then : {A B : Type 0} → Parse A → (A → Parser B) → Parse B
 and_then (Ok p) f = f p.0 p.1
 and_then (Err e) f = Err e
 
@@ -41,15 +41,15 @@ kind_of (NumberOf value) = kind.Number value
 kind_of (WordOf w) = kind.Word w
 kind_of (SignOf s) = kind.Sign s
 
-abbrev pub next : Numbered → Option Kind
+abbrev pub next : NumberedLexemes → Option Kind
 next [] = None
 next (l ∷ ls) = Some (kind_of l.1)
 
-abbrev pub number_of : Numbered → ℕ
+abbrev pub number_of : NumberedLexemes → ℕ
 number_of [] = 0
 number_of (l ∷ ls) = l.0
 
-abbrev pub behind : Numbered → Numbered
+abbrev pub behind : NumberedLexemes → NumberedLexemes
 behind [] = []
 behind (l ∷ ls) = ls
 
@@ -74,7 +74,7 @@ abbrev pub bytes_in : Lexeme → List ℕ
 bytes_in (NameOf bytes) = bytes
 bytes_in _ = []
 
-abbrev pub bytes_of : Numbered → List ℕ
+abbrev pub bytes_of : NumberedLexemes → List ℕ
 bytes_of [] = []
 bytes_of (l ∷ ls) = bytes_in l.1
 
@@ -115,12 +115,12 @@ abbrev pub op_at : (Sign → Option Op) → Option Kind → Option Op
 op_at table (Some (kind.Sign s)) = table s
 op_at table _ = None
 
-abbrev pub took : Option Op → Numbered → Outcome (Option Op)
-took None ls = Ok (None, ls)
-took (Some o) ls = Ok (Some o, behind ls)
+abbrev pub operator_read : Option Op → NumberedLexemes → Parse (Option Op)
+operator_read None ls = Ok (None, ls)
+operator_read (Some o) ls = Ok (Some o, behind ls)
 
 unfoldable pub operator : (Sign → Option Op) → Parser (Option Op)
-operator table = λ ls. took (op_at table (next ls)) ls
+operator table = λ ls. operator_read (op_at table (next ls)) ls
 
 -- ---- recursion, of which there is enough where each further call stands behind a lexeme
 
@@ -157,11 +157,11 @@ unfoldable pub until : {A : Type 0} → (Option Kind → Bool) → Parser A → 
 until test item = fix (until_turn test item)
 
 -- none before that sign, or some with commas between
-unfoldable pub listed : {A : Type 0} → Sign → Sign → Parser A → Parser (List A)
-listed comma close item = when (is_sign close) (pure []) (item >>= (λ x. each comma item >>= (λ xs. pure (x ∷ xs))))
+unfoldable pub list_of : {A : Type 0} → Sign → Sign → Parser A → Parser (List A)
+list_of comma close item = when (is_sign close) (pure []) (item >>= (λ x. each comma item >>= (λ xs. pure (x ∷ xs))))
 
 -- ---- what a function that reads ensures: the reader's outcome, unless memory runs out
 
-abbrev pub front : {A : Type 0} → List A → Outcome (List A) → Outcome (List A)
+abbrev pub front : {A : Type 0} → List A → Parse (List A) → Parse (List A)
 front xs (Ok p) = Ok (xs ++ p.0, p.1)
 front xs (Err e) = Err e

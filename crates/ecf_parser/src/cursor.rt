@@ -1,11 +1,11 @@
 //! A place among the tokens of a source, and the reading of single tokens there.
 
 ghost use Rattle.std.specs.Prelude.{◌≡◌, ◌<◌, ◌≤◌, ◌^◌, length, false, OnOk, IsTrue, IsSome};
-ghost use Rattle.ecf_grammar.specs.Lexemes.{lexemes_of, numbered};
+ghost use Rattle.ecf_grammar.specs.Lexemes.{lexemes_of, with_numbers};
 ghost use Rattle.ecf_grammar.specs.Reading.{IsTokenOf};
 ghost use Rattle.std.specs.List.{AllByRecursion};
 ghost use Rattle.ecf_parser.specs.Parsers as spec;
-ghost use Rattle.ecf_parser.specs.Outcome.{Reads};
+ghost use Rattle.ecf_parser.specs.Parses.{Parses};
 
 use crate::tables::{is_name, is_sign, is_word, number_in};
 use ecf_grammar::{Kind, Sign, Token, Word};
@@ -13,22 +13,22 @@ use ecf_lang::name::Name;
 use std::alloc::{AllocError, Global};
 use std::marker::Model;
 
-/// Why reading stops.
+/// Why the reading of a part stops.
 #[derive(Clone, Copy, Debug, PartialEq, Eq)]
-pub enum Stop {
+pub enum ParseFault {
     /// The token at the cursor is out of place.
-    Fault,
+    OutOfPlace,
     NoMemory,
 }
 
-impl From<AllocError> for Stop {
+impl From<AllocError> for ParseFault {
     ghost use Rattle.std.specs.Prelude.{◌≡◌};
-    ghost use Rattle.ecf_parser.specs.declared.cursor.Stop.TheVariants.{NoMemory};
+    ghost use Rattle.ecf_parser.specs.declared.cursor.ParseFault.TheVariants.{NoMemory};
 
     ghost from_gives = { λ _ e. e ≡ NoMemory };
 
-    fn from(_: AllocError) -> Stop {
-        Stop::NoMemory
+    fn from(_: AllocError) -> ParseFault {
+        ParseFault::NoMemory
     }
 }
 
@@ -44,12 +44,12 @@ pub struct Cursor<'a> {
 }
 
 impl<'a> Model for Cursor<'a> {
-    ghost use Rattle.ecf_grammar.specs.Lexemes.{Numbered};
-    ghost use Rattle.ecf_parser.specs.Ahead.{ahead, IsInside};
+    ghost use Rattle.ecf_grammar.specs.Lexemes.{NumberedLexemes};
+    ghost use Rattle.ecf_parser.specs.CursorView.{lexemes_ahead, IsInside};
 
-    ghost Value = { Numbered };
+    ghost Value = { NumberedLexemes };
 
-    ghost view = { ahead };
+    ghost view = { lexemes_ahead };
 
     ghost invariant = { IsInside };
 }
@@ -59,7 +59,7 @@ impl<'a> Cursor<'a> {
     pub fn new(alloc: Global, source: &'a [u8], tokens: &'a [Token]) -> Cursor<'a>
         requires placed { AllByRecursion (IsTokenOf source.now) tokens.now }
         requires few { length tokens.now < 2 ^ 32 }
-        ensures { result ≡ numbered 0 (lexemes_of source.now tokens.now) }
+        ensures { result ≡ with_numbers 0 (lexemes_of source.now tokens.now) }
     {
         Cursor {
             alloc,
@@ -80,7 +80,7 @@ impl<'a> Cursor<'a> {
     }
 
     /// How many tokens are left.
-    #[tactic(auto, using(crate::proofs::Cursors::ahead_len))]
+    #[tactic(auto, using(crate::proofs::CursorLaws::ahead_len))]
     pub fn left(&self) -> usize
         ensures { result ≡ length self.now }
     {
@@ -127,59 +127,59 @@ impl<'a> Cursor<'a> {
         is_word(word, self.peek())
     }
 
-    /// Reads this sign, and answers the number of its token.
-    #[tactic(auto, using(crate::proofs::Cursors::sign_taken, crate::proofs::Cursors::sign_left, crate::proofs::Cursors::some_sign))]
-    pub fn sign(&mut self, sign: Sign) -> Result<u32, Stop>
-        ensures read { Reads (spec.sign sign self.old) result self.new }
+    /// Parses this sign, and answers the number of its token.
+    #[tactic(auto, using(crate::proofs::CursorLaws::sign_taken, crate::proofs::CursorLaws::sign_left, crate::proofs::CursorLaws::some_sign))]
+    pub fn sign(&mut self, sign: Sign) -> Result<u32, ParseFault>
+        ensures read { Parses (spec.sign sign self.old) result self.new }
         ensures fewer { OnOk result (length self.new < length self.old) }
     {
         if self.sees(sign) {
             Ok(self.skip())
         } else {
-            Err(Stop::Fault)
+            Err(ParseFault::OutOfPlace)
         }
     }
 
-    /// Reads this word, and answers the number of its token.
-    #[tactic(auto, using(crate::proofs::Cursors::word_taken, crate::proofs::Cursors::word_left, crate::proofs::Cursors::some_word))]
-    pub fn word(&mut self, word: Word) -> Result<u32, Stop>
-        ensures read { Reads (spec.word word self.old) result self.new }
+    /// Parses this word, and answers the number of its token.
+    #[tactic(auto, using(crate::proofs::CursorLaws::word_taken, crate::proofs::CursorLaws::word_left, crate::proofs::CursorLaws::some_word))]
+    pub fn word(&mut self, word: Word) -> Result<u32, ParseFault>
+        ensures read { Parses (spec.word word self.old) result self.new }
         ensures fewer { OnOk result (length self.new < length self.old) }
     {
         if self.sees_word(word) {
             Ok(self.skip())
         } else {
-            Err(Stop::Fault)
+            Err(ParseFault::OutOfPlace)
         }
     }
 
-    /// Reads a name, with the number of its token.
-    #[tactic(auto, using(crate::proofs::Cursors::name_taken, crate::proofs::Cursors::name_left, crate::proofs::Cursors::some_name))]
-    pub fn name(&mut self) -> Result<(u32, Name), Stop>
-        ensures read { Reads (spec.name self.old) result self.new }
+    /// Parses a name, with the number of its token.
+    #[tactic(auto, using(crate::proofs::CursorLaws::name_taken, crate::proofs::CursorLaws::name_left, crate::proofs::CursorLaws::some_name))]
+    pub fn name(&mut self) -> Result<(u32, Name), ParseFault>
+        ensures read { Parses (spec.name self.old) result self.new }
         ensures fewer { OnOk result (length self.new < length self.old) }
     {
         if !is_name(self.peek()) {
-            return Err(Stop::Fault);
+            return Err(ParseFault::OutOfPlace);
         }
         let name = Name::from_slice(self.alloc, self.bytes())?;
         Ok((self.skip(), name))
     }
 
-    /// Reads a number, with the number of its token.
-    #[tactic(auto, using(crate::proofs::Cursors::number_taken, crate::proofs::Cursors::number_left, crate::proofs::Cursors::some_number))]
-    pub fn number(&mut self) -> Result<(u32, u128), Stop>
-        ensures read { Reads (spec.number self.old) result self.new }
+    /// Parses a number, with the number of its token.
+    #[tactic(auto, using(crate::proofs::CursorLaws::number_taken, crate::proofs::CursorLaws::number_left, crate::proofs::CursorLaws::some_number))]
+    pub fn number(&mut self) -> Result<(u32, u128), ParseFault>
+        ensures read { Parses (spec.number self.old) result self.new }
         ensures fewer { OnOk result (length self.new < length self.old) }
     {
         match number_in(self.peek()) {
             Some(value) => Ok((self.skip(), value)),
-            None => Err(Stop::Fault),
+            None => Err(ParseFault::OutOfPlace),
         }
     }
 
     /// Takes this sign, if it comes next.
-    #[tactic(auto, using(crate::proofs::Cursors::sign_eaten, crate::proofs::Takes::leaves_sign, crate::proofs::Cursors::some_sign))]
+    #[tactic(auto, using(crate::proofs::CursorLaws::sign_eaten, crate::proofs::TakeLaws::leaves_sign, crate::proofs::CursorLaws::some_sign))]
     pub fn eat_sign(&mut self, sign: Sign) -> bool
         ensures read { spec.eat_sign sign self.old ≡ Ok (result, self.new) }
         ensures fewer { IsTrue result → length self.new < length self.old }
@@ -193,7 +193,7 @@ impl<'a> Cursor<'a> {
     }
 
     /// Takes this word, if it comes next.
-    #[tactic(auto, using(crate::proofs::Cursors::word_eaten, crate::proofs::Takes::leaves_word, crate::proofs::Cursors::some_word))]
+    #[tactic(auto, using(crate::proofs::CursorLaws::word_eaten, crate::proofs::TakeLaws::leaves_word, crate::proofs::CursorLaws::some_word))]
     pub fn eat_word(&mut self, word: Word) -> bool
         ensures read { spec.eat_word word self.old ≡ Ok (result, self.new) }
         ensures fewer { IsTrue result → length self.new < length self.old }

@@ -4,9 +4,9 @@ ghost use Rattle.std.specs.Prelude.{◌≡◌, ◌<◌, ◌≤◌, ◌++◌, [],
 ghost use Rattle.ecf_grammar.specs.declared.tokens.Sign.TheVariants as signs;
 ghost use Rattle.ecf_parser.specs.Descent as spec;
 ghost use Rattle.ecf_parser.specs.Parsers as reading;
-ghost use Rattle.ecf_parser.specs.Outcome.{Reads};
+ghost use Rattle.ecf_parser.specs.Parses.{Parses};
 
-use crate::cursor::{Cursor, Stop};
+use crate::cursor::{Cursor, ParseFault};
 use ecf_grammar::{Kind, Sign, Word};
 use ecf_lang::tree::{Const, Member, ObjectDecl, Param, Tree, Ty};
 use sqlite_items::Items;
@@ -14,8 +14,8 @@ use sqlite_items::Items;
 impl<'a> Cursor<'a> {
     /// `num`, `flag` or `addr`.
     #[tactic(auto, unfolding(crate::specs::Descent::type_))]
-    pub fn type_name(&mut self) -> Result<Ty, Stop>
-        ensures read { Reads (spec.type_ self.old) result self.new }
+    pub fn type_name(&mut self) -> Result<Ty, ParseFault>
+        ensures read { Parses (spec.type_ self.old) result self.new }
         ensures fewer { OnOk result (length self.new < length self.old) }
     {
         match self.peek() {
@@ -31,14 +31,14 @@ impl<'a> Cursor<'a> {
                 self.word(Word::Addr)?;
                 Ok(Ty::Addr)
             }
-            _ => Err(Stop::Fault),
+            _ => Err(ParseFault::OutOfPlace),
         }
     }
 
     /// A number, `true`, `false` or the name of an object.
     #[tactic(auto, unfolding(crate::specs::Descent::constant))]
-    fn constant(&mut self) -> Result<Const, Stop>
-        ensures read { Reads (spec.constant self.old) result self.new }
+    fn constant(&mut self) -> Result<Const, ParseFault>
+        ensures read { Parses (spec.constant self.old) result self.new }
         ensures fewer { OnOk result (length self.new < length self.old) }
     {
         match self.peek() {
@@ -63,8 +63,8 @@ impl<'a> Cursor<'a> {
 
     /// A key and its value with `:` between.
     #[tactic(auto, unfolding(crate::specs::Descent::entry))]
-    fn entry(&mut self) -> Result<(Const, Const), Stop>
-        ensures read { Reads (spec.entry self.old) result self.new }
+    fn entry(&mut self) -> Result<(Const, Const), ParseFault>
+        ensures read { Parses (spec.entry self.old) result self.new }
         ensures fewer { OnOk result (length self.new < length self.old) }
     {
         let key = self.constant()?;
@@ -75,8 +75,8 @@ impl<'a> Cursor<'a> {
 
     /// A name and its type with `:` between.
     #[tactic(auto, unfolding(crate::specs::Descent::param))]
-    fn param(&mut self) -> Result<Param, Stop>
-        ensures read { Reads (spec.param self.old) result self.new }
+    fn param(&mut self) -> Result<Param, ParseFault>
+        ensures read { Parses (spec.param self.old) result self.new }
         ensures fewer { OnOk result (length self.new < length self.old) }
     {
         let (at, name) = self.name()?;
@@ -86,9 +86,9 @@ impl<'a> Cursor<'a> {
     }
 
     /// The initial value of a field behind `=`, or none.
-    #[tactic(auto, using(crate::proofs::DeclarationLoops::eaten_len), unfolding(crate::specs::Descent::first))]
-    fn first(&mut self) -> Result<Option<Const>, Stop>
-        ensures read { Reads (spec.first self.old) result self.new }
+    #[tactic(auto, using(crate::proofs::DeclarationLoopLaws::eaten_len), unfolding(crate::specs::Descent::first))]
+    fn first(&mut self) -> Result<Option<Const>, ParseFault>
+        ensures read { Parses (spec.first self.old) result self.new }
         ensures no_more { OnOk result (length self.new ≤ length self.old) }
     {
         if !self.eat_sign(Sign::Assign) {
@@ -98,9 +98,9 @@ impl<'a> Cursor<'a> {
     }
 
     /// The initial pairs of a map behind `=` in braces, or none.
-    #[tactic(auto, using(crate::proofs::DeclarationLoops::eaten_len), unfolding(crate::specs::Descent::entries))]
-    fn entries(&mut self) -> Result<Items<(Const, Const)>, Stop>
-        ensures read { Reads (spec.entries self.old) result self.new }
+    #[tactic(auto, using(crate::proofs::DeclarationLoopLaws::eaten_len), unfolding(crate::specs::Descent::entries))]
+    fn entries(&mut self) -> Result<Items<(Const, Const)>, ParseFault>
+        ensures read { Parses (spec.entries self.old) result self.new }
         ensures no_more { OnOk result (length self.new ≤ length self.old) }
     {
         if !self.eat_sign(Sign::Assign) {
@@ -113,9 +113,9 @@ impl<'a> Cursor<'a> {
     }
 
     /// Pairs with commas between up to a closing brace, or none.
-    #[tactic(auto, using(crate::proofs::DeclarationLoops::pairs_none, crate::proofs::DeclarationLoops::pairs_first, crate::proofs::DeclarationLoops::pairs_some, crate::proofs::DeclarationLoops::pairs_more, crate::proofs::DeclarationLoops::pairs_stuck, crate::proofs::DeclarationLoops::pairs_over, crate::proofs::DeclarationLoops::eaten_len))]
-    fn pairs(&mut self) -> Result<Items<(Const, Const)>, Stop>
-        ensures read { Reads (reading.listed signs.Comma signs.CloseBrace spec.entry self.old) result self.new }
+    #[tactic(auto, using(crate::proofs::DeclarationLoopLaws::pairs_none, crate::proofs::DeclarationLoopLaws::pairs_first, crate::proofs::DeclarationLoopLaws::pairs_some, crate::proofs::DeclarationLoopLaws::pairs_more, crate::proofs::DeclarationLoopLaws::pairs_stuck, crate::proofs::DeclarationLoopLaws::pairs_over, crate::proofs::DeclarationLoopLaws::eaten_len))]
+    fn pairs(&mut self) -> Result<Items<(Const, Const)>, ParseFault>
+        ensures read { Parses (reading.list_of signs.Comma signs.CloseBrace spec.entry self.old) result self.new }
         ensures no_more { OnOk result (length self.new ≤ length self.old) }
     {
         let mut pairs = Items::new(self.alloc);
@@ -131,8 +131,8 @@ impl<'a> Cursor<'a> {
 
     /// A type, a name and maybe an initial value.
     #[tactic(auto, unfolding(crate::specs::Descent::field))]
-    fn field(&mut self) -> Result<Member, Stop>
-        ensures read { Reads (spec.field self.old) result self.new }
+    fn field(&mut self) -> Result<Member, ParseFault>
+        ensures read { Parses (spec.field self.old) result self.new }
         ensures fewer { OnOk result (length self.new < length self.old) }
     {
         let ty = self.type_name()?;
@@ -149,8 +149,8 @@ impl<'a> Cursor<'a> {
 
     /// A name, the types of keys and values, and maybe initial pairs.
     #[tactic(auto, unfolding(crate::specs::Descent::map))]
-    fn map(&mut self) -> Result<Member, Stop>
-        ensures read { Reads (spec.map self.old) result self.new }
+    fn map(&mut self) -> Result<Member, ParseFault>
+        ensures read { Parses (spec.map self.old) result self.new }
         ensures fewer { OnOk result (length self.new < length self.old) }
     {
         self.word(Word::Map)?;
@@ -172,8 +172,8 @@ impl<'a> Cursor<'a> {
 
     /// A name, parameters, the type of the answer and a body.
     #[tactic(auto, unfolding(crate::specs::Descent::method))]
-    fn method(&mut self) -> Result<Member, Stop>
-        ensures read { Reads (spec.method self.old) result self.new }
+    fn method(&mut self) -> Result<Member, ParseFault>
+        ensures read { Parses (spec.method self.old) result self.new }
         ensures fewer { OnOk result (length self.new < length self.old) }
     {
         self.word(Word::Method)?;
@@ -194,9 +194,9 @@ impl<'a> Cursor<'a> {
     }
 
     /// Parameters with commas between up to a closing parenthesis, or none.
-    #[tactic(auto, using(crate::proofs::DeclarationLoops::params_none, crate::proofs::DeclarationLoops::params_first, crate::proofs::DeclarationLoops::params_some, crate::proofs::DeclarationLoops::params_more, crate::proofs::DeclarationLoops::params_stuck, crate::proofs::DeclarationLoops::params_over, crate::proofs::DeclarationLoops::eaten_len))]
-    fn params(&mut self) -> Result<Items<Param>, Stop>
-        ensures read { Reads (reading.listed signs.Comma signs.CloseParen spec.param self.old) result self.new }
+    #[tactic(auto, using(crate::proofs::DeclarationLoopLaws::params_none, crate::proofs::DeclarationLoopLaws::params_first, crate::proofs::DeclarationLoopLaws::params_some, crate::proofs::DeclarationLoopLaws::params_more, crate::proofs::DeclarationLoopLaws::params_stuck, crate::proofs::DeclarationLoopLaws::params_over, crate::proofs::DeclarationLoopLaws::eaten_len))]
+    fn params(&mut self) -> Result<Items<Param>, ParseFault>
+        ensures read { Parses (reading.list_of signs.Comma signs.CloseParen spec.param self.old) result self.new }
         ensures no_more { OnOk result (length self.new ≤ length self.old) }
     {
         let mut params = Items::new(self.alloc);
@@ -212,8 +212,8 @@ impl<'a> Cursor<'a> {
 
     /// A field, a map or a method.
     #[tactic(auto, unfolding(crate::specs::Descent::member))]
-    fn member(&mut self) -> Result<Member, Stop>
-        ensures read { Reads (spec.member self.old) result self.new }
+    fn member(&mut self) -> Result<Member, ParseFault>
+        ensures read { Parses (spec.member self.old) result self.new }
         ensures fewer { OnOk result (length self.new < length self.old) }
     {
         match self.peek() {
@@ -225,8 +225,8 @@ impl<'a> Cursor<'a> {
 
     /// A name and members in braces.
     #[tactic(auto, unfolding(crate::specs::Descent::object))]
-    fn object(&mut self) -> Result<ObjectDecl, Stop>
-        ensures read { Reads (spec.object self.old) result self.new }
+    fn object(&mut self) -> Result<ObjectDecl, ParseFault>
+        ensures read { Parses (spec.object self.old) result self.new }
         ensures fewer { OnOk result (length self.new < length self.old) }
     {
         self.word(Word::Object)?;
@@ -238,9 +238,9 @@ impl<'a> Cursor<'a> {
     }
 
     /// Members up to a closing brace.
-    #[tactic(auto, using(crate::proofs::Loops::front_nil, crate::proofs::DeclarationLoops::members_more, crate::proofs::DeclarationLoops::members_stuck, crate::proofs::DeclarationLoops::members_over))]
-    fn members(&mut self) -> Result<Items<Member>, Stop>
-        ensures read { Reads (reading.until (reading.is_sign signs.CloseBrace) spec.member self.old) result self.new }
+    #[tactic(auto, using(crate::proofs::LoopLaws::front_nil, crate::proofs::DeclarationLoopLaws::members_more, crate::proofs::DeclarationLoopLaws::members_stuck, crate::proofs::DeclarationLoopLaws::members_over))]
+    fn members(&mut self) -> Result<Items<Member>, ParseFault>
+        ensures read { Parses (reading.until (reading.is_sign signs.CloseBrace) spec.member self.old) result self.new }
         ensures no_more { OnOk result (length self.new ≤ length self.old) }
     {
         let mut members = Items::new(self.alloc);
@@ -252,8 +252,8 @@ impl<'a> Cursor<'a> {
 
     /// At least one object up to the end of the tokens.
     #[tactic(auto, unfolding(crate::specs::Descent::file))]
-    pub fn file(&mut self) -> Result<Tree, Stop>
-        ensures read { Reads (spec.file self.old) result self.new }
+    pub fn file(&mut self) -> Result<Tree, ParseFault>
+        ensures read { Parses (spec.file self.old) result self.new }
         ensures fewer { OnOk result (length self.new < length self.old) }
     {
         let first = self.object()?;
@@ -264,9 +264,9 @@ impl<'a> Cursor<'a> {
     }
 
     /// Objects up to the end of the tokens.
-    #[tactic(auto, using(crate::proofs::Loops::front_nil, crate::proofs::DeclarationLoops::objects_more, crate::proofs::DeclarationLoops::objects_stuck, crate::proofs::DeclarationLoops::objects_over))]
-    fn objects(&mut self) -> Result<Items<ObjectDecl>, Stop>
-        ensures read { Reads (reading.until spec.at_end spec.object self.old) result self.new }
+    #[tactic(auto, using(crate::proofs::LoopLaws::front_nil, crate::proofs::DeclarationLoopLaws::objects_more, crate::proofs::DeclarationLoopLaws::objects_stuck, crate::proofs::DeclarationLoopLaws::objects_over))]
+    fn objects(&mut self) -> Result<Items<ObjectDecl>, ParseFault>
+        ensures read { Parses (reading.until spec.at_end spec.object self.old) result self.new }
         ensures no_more { OnOk result (length self.new ≤ length self.old) }
     {
         let mut objects = Items::new(self.alloc);

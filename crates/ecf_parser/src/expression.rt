@@ -6,9 +6,9 @@ ghost use Rattle.ecf_grammar.specs.Spells as grammar;
 ghost use Rattle.ecf_grammar.specs.declared.tokens.Sign.TheVariants as signs;
 ghost use Rattle.ecf_parser.specs.Descent as spec;
 ghost use Rattle.ecf_parser.specs.Parsers as reading;
-ghost use Rattle.ecf_parser.specs.Outcome.{Reads};
+ghost use Rattle.ecf_parser.specs.Parses.{Parses};
 
-use crate::cursor::{Cursor, Stop};
+use crate::cursor::{Cursor, ParseFault};
 use crate::tables::{comparison_op, product_op, sum_op};
 use ecf_grammar::{Kind, Sign, Word};
 use ecf_lang::tree::{CallExpr, Expr, Op};
@@ -69,7 +69,7 @@ fn product_of(alloc: Global, first: Expr, rest: Items<(Op, Expr)>) -> Result<Exp
 
 impl<'a> Cursor<'a> {
     /// Takes an operator that compares, if one comes next.
-    #[tactic(auto, using(crate::proofs::Cursors::op_eaten, crate::proofs::Takes::leaves_op, crate::proofs::Cursors::some_op))]
+    #[tactic(auto, using(crate::proofs::CursorLaws::op_eaten, crate::proofs::TakeLaws::leaves_op, crate::proofs::CursorLaws::some_op))]
     fn eat_comparison_op(&mut self) -> Option<Op>
         ensures read { reading.operator grammar.comparison_op self.old ≡ Ok (result, self.new) }
         ensures fewer { IsSome result → length self.new < length self.old }
@@ -81,7 +81,7 @@ impl<'a> Cursor<'a> {
     }
 
     /// Takes an operator between terms, if one comes next.
-    #[tactic(auto, using(crate::proofs::Cursors::op_eaten, crate::proofs::Takes::leaves_op, crate::proofs::Cursors::some_op))]
+    #[tactic(auto, using(crate::proofs::CursorLaws::op_eaten, crate::proofs::TakeLaws::leaves_op, crate::proofs::CursorLaws::some_op))]
     fn eat_sum_op(&mut self) -> Option<Op>
         ensures read { reading.operator grammar.sum_op self.old ≡ Ok (result, self.new) }
         ensures fewer { IsSome result → length self.new < length self.old }
@@ -93,7 +93,7 @@ impl<'a> Cursor<'a> {
     }
 
     /// Takes an operator between factors, if one comes next.
-    #[tactic(auto, using(crate::proofs::Cursors::op_eaten, crate::proofs::Takes::leaves_op, crate::proofs::Cursors::some_op))]
+    #[tactic(auto, using(crate::proofs::CursorLaws::op_eaten, crate::proofs::TakeLaws::leaves_op, crate::proofs::CursorLaws::some_op))]
     fn eat_product_op(&mut self) -> Option<Op>
         ensures read { reading.operator grammar.product_op self.old ≡ Ok (result, self.new) }
         ensures fewer { IsSome result → length self.new < length self.old }
@@ -106,9 +106,9 @@ impl<'a> Cursor<'a> {
 
     /// Parts with `||` between.
     #[cycle(expressions)]
-    #[tactic(auto, using(crate::proofs::Loops::either_done, crate::proofs::Loops::either_first, crate::proofs::Loops::either_rest))]
-    pub fn expr(&mut self) -> Result<Expr, Stop>
-        ensures read { Reads (spec.expr self.old) result self.new }
+    #[tactic(auto, using(crate::proofs::LoopLaws::either_done, crate::proofs::LoopLaws::either_first, crate::proofs::LoopLaws::either_rest))]
+    pub fn expr(&mut self) -> Result<Expr, ParseFault>
+        ensures read { Parses (spec.expr self.old) result self.new }
         ensures fewer { OnOk result (length self.new < length self.old) }
     {
         let first = self.both()?;
@@ -118,9 +118,9 @@ impl<'a> Cursor<'a> {
 
     /// Further parts, each behind `||`.
     #[cycle(expressions)]
-    #[tactic(auto, using(crate::proofs::Loops::front_nil, crate::proofs::Loops::ors_more, crate::proofs::Loops::ors_stuck, crate::proofs::Loops::ors_over))]
-    fn ors(&mut self) -> Result<Items<Expr>, Stop>
-        ensures read { Reads (reading.each signs.Or (spec.both spec.expr) self.old) result self.new }
+    #[tactic(auto, using(crate::proofs::LoopLaws::front_nil, crate::proofs::LoopLaws::ors_more, crate::proofs::LoopLaws::ors_stuck, crate::proofs::LoopLaws::ors_over))]
+    fn ors(&mut self) -> Result<Items<Expr>, ParseFault>
+        ensures read { Parses (reading.each signs.Or (spec.both spec.expr) self.old) result self.new }
         ensures no_more { OnOk result (length self.new ≤ length self.old) }
     {
         let mut rest = Items::new(self.alloc);
@@ -132,9 +132,9 @@ impl<'a> Cursor<'a> {
 
     /// Parts with `&&` between.
     #[cycle(expressions)]
-    #[tactic(auto, using(crate::proofs::Loops::both_done, crate::proofs::Loops::both_first, crate::proofs::Loops::both_rest))]
-    fn both(&mut self) -> Result<Expr, Stop>
-        ensures read { Reads (spec.both spec.expr self.old) result self.new }
+    #[tactic(auto, using(crate::proofs::LoopLaws::both_done, crate::proofs::LoopLaws::both_first, crate::proofs::LoopLaws::both_rest))]
+    fn both(&mut self) -> Result<Expr, ParseFault>
+        ensures read { Parses (spec.both spec.expr self.old) result self.new }
         ensures fewer { OnOk result (length self.new < length self.old) }
     {
         let first = self.comparison()?;
@@ -144,9 +144,9 @@ impl<'a> Cursor<'a> {
 
     /// Further parts, each behind `&&`.
     #[cycle(expressions)]
-    #[tactic(auto, using(crate::proofs::Loops::front_nil, crate::proofs::Loops::ands_more, crate::proofs::Loops::ands_stuck, crate::proofs::Loops::ands_over))]
-    fn ands(&mut self) -> Result<Items<Expr>, Stop>
-        ensures read { Reads (reading.each signs.And (spec.comparison spec.expr) self.old) result self.new }
+    #[tactic(auto, using(crate::proofs::LoopLaws::front_nil, crate::proofs::LoopLaws::ands_more, crate::proofs::LoopLaws::ands_stuck, crate::proofs::LoopLaws::ands_over))]
+    fn ands(&mut self) -> Result<Items<Expr>, ParseFault>
+        ensures read { Parses (reading.each signs.And (spec.comparison spec.expr) self.old) result self.new }
         ensures no_more { OnOk result (length self.new ≤ length self.old) }
     {
         let mut rest = Items::new(self.alloc);
@@ -159,8 +159,8 @@ impl<'a> Cursor<'a> {
     /// A sum, or two with a sign that compares between.
     #[cycle(expressions)]
     #[tactic(auto, unfolding(crate::specs::Descent::comparison))]
-    fn comparison(&mut self) -> Result<Expr, Stop>
-        ensures read { Reads (spec.comparison spec.expr self.old) result self.new }
+    fn comparison(&mut self) -> Result<Expr, ParseFault>
+        ensures read { Parses (spec.comparison spec.expr self.old) result self.new }
         ensures fewer { OnOk result (length self.new < length self.old) }
     {
         let left = self.sum()?;
@@ -177,9 +177,9 @@ impl<'a> Cursor<'a> {
 
     /// Products with `+` and `-` between.
     #[cycle(expressions)]
-    #[tactic(auto, using(crate::proofs::Loops::sum_done, crate::proofs::Loops::sum_first, crate::proofs::Loops::sum_rest))]
-    fn sum(&mut self) -> Result<Expr, Stop>
-        ensures read { Reads (spec.sum spec.expr self.old) result self.new }
+    #[tactic(auto, using(crate::proofs::LoopLaws::sum_done, crate::proofs::LoopLaws::sum_first, crate::proofs::LoopLaws::sum_rest))]
+    fn sum(&mut self) -> Result<Expr, ParseFault>
+        ensures read { Parses (spec.sum spec.expr self.old) result self.new }
         ensures fewer { OnOk result (length self.new < length self.old) }
     {
         let first = self.product()?;
@@ -189,9 +189,9 @@ impl<'a> Cursor<'a> {
 
     /// Further terms, each behind `+` or `-`.
     #[cycle(expressions)]
-    #[tactic(auto, using(crate::proofs::Loops::front_nil, crate::proofs::Loops::terms_stuck))]
-    fn terms(&mut self) -> Result<Items<(Op, Expr)>, Stop>
-        ensures read { Reads (reading.chain grammar.sum_op (spec.product spec.expr) self.old) result self.new }
+    #[tactic(auto, using(crate::proofs::LoopLaws::front_nil, crate::proofs::LoopLaws::terms_stuck))]
+    fn terms(&mut self) -> Result<Items<(Op, Expr)>, ParseFault>
+        ensures read { Parses (reading.chain grammar.sum_op (spec.product spec.expr) self.old) result self.new }
         ensures no_more { OnOk result (length self.new ≤ length self.old) }
     {
         let mut rest = Items::new(self.alloc);
@@ -203,9 +203,9 @@ impl<'a> Cursor<'a> {
 
     /// Atoms with `*`, `/` and `%` between, each with or without a `!`.
     #[cycle(expressions)]
-    #[tactic(auto, using(crate::proofs::Loops::product_done, crate::proofs::Loops::product_first, crate::proofs::Loops::product_rest))]
-    fn product(&mut self) -> Result<Expr, Stop>
-        ensures read { Reads (spec.product spec.expr self.old) result self.new }
+    #[tactic(auto, using(crate::proofs::LoopLaws::product_done, crate::proofs::LoopLaws::product_first, crate::proofs::LoopLaws::product_rest))]
+    fn product(&mut self) -> Result<Expr, ParseFault>
+        ensures read { Parses (spec.product spec.expr self.old) result self.new }
         ensures fewer { OnOk result (length self.new < length self.old) }
     {
         let first = self.unary()?;
@@ -215,9 +215,9 @@ impl<'a> Cursor<'a> {
 
     /// Further factors, each behind `*`, `/` or `%`.
     #[cycle(expressions)]
-    #[tactic(auto, using(crate::proofs::Loops::front_nil, crate::proofs::Loops::factors_stuck))]
-    fn factors(&mut self) -> Result<Items<(Op, Expr)>, Stop>
-        ensures read { Reads (reading.chain grammar.product_op (spec.unary spec.expr) self.old) result self.new }
+    #[tactic(auto, using(crate::proofs::LoopLaws::front_nil, crate::proofs::LoopLaws::factors_stuck))]
+    fn factors(&mut self) -> Result<Items<(Op, Expr)>, ParseFault>
+        ensures read { Parses (reading.chain grammar.product_op (spec.unary spec.expr) self.old) result self.new }
         ensures no_more { OnOk result (length self.new ≤ length self.old) }
     {
         let mut rest = Items::new(self.alloc);
@@ -230,8 +230,8 @@ impl<'a> Cursor<'a> {
     /// An atom, with or without a `!`.
     #[cycle(expressions)]
     #[tactic(auto, unfolding(crate::specs::Descent::unary))]
-    fn unary(&mut self) -> Result<Expr, Stop>
-        ensures read { Reads (spec.unary spec.expr self.old) result self.new }
+    fn unary(&mut self) -> Result<Expr, ParseFault>
+        ensures read { Parses (spec.unary spec.expr self.old) result self.new }
         ensures fewer { OnOk result (length self.new < length self.old) }
     {
         if !self.sees(Sign::Not) {
@@ -248,8 +248,8 @@ impl<'a> Cursor<'a> {
     /// A number, `true`, `false`, a call or what can be called.
     #[cycle(expressions)]
     #[tactic(auto, unfolding(crate::specs::Descent::atom))]
-    fn atom(&mut self) -> Result<Expr, Stop>
-        ensures read { Reads (spec.atom spec.expr self.old) result self.new }
+    fn atom(&mut self) -> Result<Expr, ParseFault>
+        ensures read { Parses (spec.atom spec.expr self.old) result self.new }
         ensures fewer { OnOk result (length self.new < length self.old) }
     {
         match self.peek() {
@@ -276,8 +276,8 @@ impl<'a> Cursor<'a> {
     /// `here`, a name, a name with an index, or an expression in parentheses.
     #[cycle(expressions)]
     #[tactic(auto, unfolding(crate::specs::Descent::target))]
-    fn target(&mut self) -> Result<Expr, Stop>
-        ensures read { Reads (spec.target spec.expr self.old) result self.new }
+    fn target(&mut self) -> Result<Expr, ParseFault>
+        ensures read { Parses (spec.target spec.expr self.old) result self.new }
         ensures fewer { OnOk result (length self.new < length self.old) }
     {
         match self.peek() {
@@ -304,15 +304,15 @@ impl<'a> Cursor<'a> {
                 self.sign(Sign::CloseParen)?;
                 Ok(inner)
             }
-            _ => Err(Stop::Fault),
+            _ => Err(ParseFault::OutOfPlace),
         }
     }
 
     /// A call behind `call`, or an internal one behind `self`.
     #[cycle(expressions)]
     #[tactic(auto, unfolding(crate::specs::Descent::invoke, crate::specs::Descent::internal))]
-    pub fn invoke(&mut self) -> Result<CallExpr, Stop>
-        ensures read { Reads (spec.invoke spec.expr self.old) result self.new }
+    pub fn invoke(&mut self) -> Result<CallExpr, ParseFault>
+        ensures read { Parses (spec.invoke spec.expr self.old) result self.new }
         ensures fewer { OnOk result (length self.new < length self.old) }
     {
         match self.peek() {
@@ -332,15 +332,15 @@ impl<'a> Cursor<'a> {
                     args,
                 })
             }
-            _ => Err(Stop::Fault),
+            _ => Err(ParseFault::OutOfPlace),
         }
     }
 
     /// What stands behind `call` or `try`, whose token is `at`: a target, a method's name and arguments.
     #[cycle(expressions)]
     #[tactic(auto, unfolding(crate::specs::Descent::external))]
-    pub fn external(&mut self, at: u32) -> Result<CallExpr, Stop>
-        ensures read { Reads (spec.external spec.expr at self.old) result self.new }
+    pub fn external(&mut self, at: u32) -> Result<CallExpr, ParseFault>
+        ensures read { Parses (spec.external spec.expr at self.old) result self.new }
         ensures fewer { OnOk result (length self.new < length self.old) }
     {
         let target = self.target()?;
@@ -359,8 +359,8 @@ impl<'a> Cursor<'a> {
     /// Expressions in parentheses with commas between, or none.
     #[cycle(expressions)]
     #[tactic(auto, unfolding(crate::specs::Descent::arguments))]
-    fn arguments(&mut self) -> Result<Items<Expr>, Stop>
-        ensures read { Reads (spec.arguments spec.expr self.old) result self.new }
+    fn arguments(&mut self) -> Result<Items<Expr>, ParseFault>
+        ensures read { Parses (spec.arguments spec.expr self.old) result self.new }
         ensures fewer { OnOk result (length self.new < length self.old) }
     {
         self.sign(Sign::OpenParen)?;
@@ -371,9 +371,9 @@ impl<'a> Cursor<'a> {
 
     /// Expressions with commas between up to a closing parenthesis, or none.
     #[cycle(expressions)]
-    #[tactic(auto, using(crate::proofs::Loops::exprs_none, crate::proofs::Loops::exprs_first, crate::proofs::Loops::exprs_some, crate::proofs::Loops::commas_more, crate::proofs::Loops::commas_stuck, crate::proofs::Loops::commas_over))]
-    fn exprs(&mut self) -> Result<Items<Expr>, Stop>
-        ensures read { Reads (reading.listed signs.Comma signs.CloseParen spec.expr self.old) result self.new }
+    #[tactic(auto, using(crate::proofs::LoopLaws::exprs_none, crate::proofs::LoopLaws::exprs_first, crate::proofs::LoopLaws::exprs_some, crate::proofs::LoopLaws::commas_more, crate::proofs::LoopLaws::commas_stuck, crate::proofs::LoopLaws::commas_over))]
+    fn exprs(&mut self) -> Result<Items<Expr>, ParseFault>
+        ensures read { Parses (reading.list_of signs.Comma signs.CloseParen spec.expr self.old) result self.new }
         ensures no_more { OnOk result (length self.new ≤ length self.old) }
     {
         let mut args = Items::new(self.alloc);

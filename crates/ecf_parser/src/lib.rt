@@ -1,4 +1,4 @@
-//! Reads the tokens of a contract file as its tree, or finds the first that is out of place or nested too deep.
+//! Parses the tokens of a contract file as its tree, or finds the first that is out of place or nested too deep.
 #![tactic(auto)]
 
 mod cursor;

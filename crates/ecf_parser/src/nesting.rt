@@ -6,12 +6,10 @@ ghost use Rattle.ecf_grammar.specs.Nesting as spec;
 ghost use Rattle.ecf_parser.specs.FirstDeep.{IsFirstDeep, IsAllShallow};
 
 use ecf_grammar::{Kind, Sign, Token};
+use ecf_lang::limits::MAX_NESTING;
 
-/// How deep brackets may be nested.
-const NESTING_LIMIT: usize = 64;
-
-fn opens(kind: Kind) -> bool
-    ensures { result ≡ spec.opens (lexeme kind []) }
+fn is_opening(kind: Kind) -> bool
+    ensures { result ≡ spec.is_opening (lexeme kind []) }
 {
     matches!(
         kind,
@@ -19,8 +17,8 @@ fn opens(kind: Kind) -> bool
     )
 }
 
-fn closes(kind: Kind) -> bool
-    ensures { result ≡ spec.closes (lexeme kind []) }
+fn is_closing(kind: Kind) -> bool
+    ensures { result ≡ spec.is_closing (lexeme kind []) }
 {
     matches!(
         kind,
@@ -36,13 +34,13 @@ pub fn first_too_deep(tokens: &[Token]) -> Option<usize>
     let mut opened: usize = 0;
     let mut closed: usize = 0;
     for (at, token) in tokens.iter().enumerate() {
-        if opens(token.kind) {
+        if is_opening(token.kind) {
             opened += 1;
         }
-        if opened.saturating_sub(closed) > NESTING_LIMIT {
+        if opened.saturating_sub(closed) > MAX_NESTING {
             return Some(at);
         }
-        if closes(token.kind) {
+        if is_closing(token.kind) {
             closed += 1;
         }
     }

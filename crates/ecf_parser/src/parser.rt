@@ -1,18 +1,19 @@
 //! The tree of a whole file.
 
-ghost use Rattle.std.specs.Prelude.{◌≡◌, ◌⊎◌, ◌^◌, ◌<◌, length, IfOk, IfErr, IsErrAnd, MatchResult};
+ghost use Rattle.std.specs.Prelude.{◌≡◌, ◌⊎◌, ◌^◌, ◌<◌, ◌≤◌, length, IfOk, IfErr, IsErrAnd, MatchResult};
 ghost use Rattle.std.specs.List.{AllByRecursion};
 ghost use Rattle.ecf_lang.specs.declared.tree.Tree.{Tree};
 ghost use Rattle.ecf_grammar.specs.Lexemes.{lexemes_of};
 ghost use Rattle.ecf_grammar.specs.Reading as reading;
 ghost use Rattle.ecf_grammar.specs.Spells.{IsFileOf};
 ghost use Rattle.ecf_parser.specs.FirstDeep.{IsAllShallow};
-ghost use Rattle.ecf_parser.specs.Refuses.{Refuses};
-ghost use Rattle.ecf_parser.specs.Refuses as spec;
+ghost use Rattle.ecf_parser.specs.SyntaxFault.{HasSyntaxFault};
+ghost use Rattle.ecf_parser.specs.SyntaxFault as spec;
+ghost use Rattle.ecf_parser.specs.declared.cursor.ParseFault.TheVariants.{OutOfPlace};
 ghost use Rattle.ecf_parser.specs.declared.parser.SyntaxFault.{SyntaxFault};
 ghost use Rattle.ecf_parser.specs.declared.parser.SyntaxFault.TheVariants.{NoMemory};
 
-use crate::cursor::{Cursor, Stop};
+use crate::cursor::{Cursor, ParseFault};
 use crate::nesting::first_too_deep;
 use ecf_grammar::{Token, tokens_in_place};
 use ecf_lang::tree::Tree;
@@ -35,17 +36,17 @@ pub enum SyntaxFault {
 
 /// The one tree that the tokens of a source spell, by the grammar in docs/language.md. Work and memory are linear in the
 /// size of the source; functions call each other only as deep as brackets nest, however long a chain is.
-#[tactic(auto, using(crate::proofs::Answers::front_refused, crate::proofs::Answers::front_file, crate::proofs::Answers::front_shallow, crate::proofs::Answers::front_len, crate::proofs::Answers::same_tree, crate::proofs::Answers::only_memory, crate::proofs::Answers::not_both, crate::proofs::Answers::same_fault, crate::proofs::Answers::only_deep))]
+#[tactic(auto, using(crate::proofs::AnswerLaws::front_refused, crate::proofs::AnswerLaws::front_file, crate::proofs::AnswerLaws::front_shallow, crate::proofs::AnswerLaws::front_len, crate::proofs::AnswerLaws::same_tree, crate::proofs::AnswerLaws::only_memory, crate::proofs::AnswerLaws::not_both, crate::proofs::AnswerLaws::same_fault, crate::proofs::AnswerLaws::only_deep))]
 pub fn parse(alloc: Global, source: &[u8], tokens: &[Token]) -> Result<Tree, SyntaxFault>
     requires { reading.Reads source.now tokens.now }
 
     // An answer is right.
     ensures file { IfOk result (IsFileOf (lexemes_of source.now tokens.now)) }
-    ensures refused { IfErr result (λ fault. (fault ≡ NoMemory) ⊎ Refuses (lexemes_of source.now tokens.now) fault) }
+    ensures refused { IfErr result (λ fault. (fault ≡ NoMemory) ⊎ HasSyntaxFault (lexemes_of source.now tokens.now) fault) }
 
     // What is spelled is read, and what has a fault is refused, unless memory runs out.
     ensures reads { (tree : Tree) → IsFileOf (lexemes_of source.now tokens.now) tree → MatchResult result (λ found. found ≡ tree) (λ e. e ≡ NoMemory) }
-    ensures refuses { (fault : SyntaxFault) → Refuses (lexemes_of source.now tokens.now) fault → IsErrAnd result (λ e. (e ≡ NoMemory) ⊎ (e ≡ fault)) }
+    ensures refuses { (fault : SyntaxFault) → HasSyntaxFault (lexemes_of source.now tokens.now) fault → IsErrAnd result (λ e. (e ≡ NoMemory) ⊎ (e ≡ fault)) }
 {
     tokens_in_place();
     let Some(deep) = first_too_deep(tokens) else {
@@ -70,20 +71,31 @@ fn first_fault(fault: SyntaxFault, deep: u32) -> SyntaxFault
 }
 
 // What `parse` answers where no token is nested too deep.
-#[tactic(auto, using(crate::proofs::Answers::file_read, crate::proofs::Answers::fault_found, crate::proofs::Answers::lexemes_len, crate::proofs::Answers::no_more_left))]
+#[tactic(auto, using(crate::proofs::AnswerLaws::file_read, crate::proofs::AnswerLaws::fault_found, crate::proofs::NestingLaws::lexemes_len, crate::proofs::AnswerLaws::no_more_left))]
 fn parse_shallow(alloc: Global, source: &[u8], tokens: &[Token]) -> Result<Tree, SyntaxFault>
     requires placed { AllByRecursion (reading.IsTokenOf source.now) tokens.now }
     requires few { length tokens.now < 2 ^ 32 }
     requires shallow { IsAllShallow (lexemes_of source.now tokens.now) }
     ensures file { IfOk result (IsFileOf (lexemes_of source.now tokens.now)) }
-    ensures refused { IfErr result (λ fault. (fault ≡ NoMemory) ⊎ Refuses (lexemes_of source.now tokens.now) fault) }
+    ensures refused { IfErr result (λ fault. (fault ≡ NoMemory) ⊎ HasSyntaxFault (lexemes_of source.now tokens.now) fault) }
 {
     let mut cursor = Cursor::new(alloc, source, tokens);
     match cursor.file() {
         Ok(tree) => Ok(tree),
-        Err(Stop::Fault) => Err(SyntaxFault::At {
-            token: (tokens.len() - cursor.left()) as u32,
-        }),
-        Err(Stop::NoMemory) => Err(SyntaxFault::NoMemory),
+        Err(fault) => Err(fault_behind(fault, tokens.len(), cursor.left())),
+    }
+}
+
+// The fault of so many tokens, where their reading stops for this one and so many are left.
+fn fault_behind(fault: ParseFault, tokens: usize, left: usize) -> SyntaxFault
+    requires few { tokens < 2 ^ 32 }
+    requires read { fault ≡ OutOfPlace → left ≤ tokens }
+    ensures { result ≡ spec.fault_behind fault tokens left }
+{
+    match fault {
+        ParseFault::OutOfPlace => SyntaxFault::At {
+            token: (tokens - left) as u32,
+        },
+        ParseFault::NoMemory => SyntaxFault::NoMemory,
     }
 }

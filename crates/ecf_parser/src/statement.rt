@@ -5,9 +5,9 @@ ghost use Rattle.std.specs.Prelude.{◌≡◌, ◌<◌, ◌≤◌, length, OnOk}
 ghost use Rattle.ecf_grammar.specs.declared.tokens.Sign.TheVariants as signs;
 ghost use Rattle.ecf_parser.specs.Descent as spec;
 ghost use Rattle.ecf_parser.specs.Parsers as reading;
-ghost use Rattle.ecf_parser.specs.Outcome.{Reads};
+ghost use Rattle.ecf_parser.specs.Parses.{Parses};
 
-use crate::cursor::{Cursor, Stop};
+use crate::cursor::{Cursor, ParseFault};
 use ecf_grammar::{Kind, Sign, Word};
 use ecf_lang::name::Name;
 use ecf_lang::tree::{Block, Expr, Stmt, Ty};
@@ -16,8 +16,8 @@ use sqlite_items::Items;
 impl<'a> Cursor<'a> {
     /// `=`, an expression and `;`.
     #[tactic(auto, unfolding(crate::specs::Descent::value))]
-    fn value(&mut self) -> Result<Expr, Stop>
-        ensures read { Reads (spec.value self.old) result self.new }
+    fn value(&mut self) -> Result<Expr, ParseFault>
+        ensures read { Parses (spec.value self.old) result self.new }
         ensures fewer { OnOk result (length self.new < length self.old) }
     {
         self.sign(Sign::Assign)?;
@@ -27,9 +27,9 @@ impl<'a> Cursor<'a> {
     }
 
     /// An expression and `;`.
-    #[tactic(auto, unfolding(crate::specs::Descent::closed))]
-    fn closed(&mut self) -> Result<Expr, Stop>
-        ensures read { Reads (spec.closed self.old) result self.new }
+    #[tactic(auto, unfolding(crate::specs::Descent::expr_semicolon))]
+    fn expr_semicolon(&mut self) -> Result<Expr, ParseFault>
+        ensures read { Parses (spec.expr_semicolon self.old) result self.new }
         ensures fewer { OnOk result (length self.new < length self.old) }
     {
         let value = self.expr()?;
@@ -39,8 +39,8 @@ impl<'a> Cursor<'a> {
 
     /// The value or the `try` of a `let`, behind its `=`, and the `;`; `at` is the token of the name.
     #[tactic(auto, unfolding(crate::specs::Descent::let_value))]
-    fn let_value(&mut self, at: u32, name: Name, ty: Ty) -> Result<Stmt, Stop>
-        ensures read { Reads (spec.let_value (at, name) ty self.old) result self.new }
+    fn let_value(&mut self, at: u32, name: Name, ty: Ty) -> Result<Stmt, ParseFault>
+        ensures read { Parses (spec.let_value (at, name) ty self.old) result self.new }
         ensures fewer { OnOk result (length self.new < length self.old) }
     {
         if self.sees_word(Word::Try) {
@@ -61,8 +61,8 @@ impl<'a> Cursor<'a> {
 
     /// A `let`.
     #[tactic(auto, unfolding(crate::specs::Descent::let_))]
-    fn let_stmt(&mut self) -> Result<Stmt, Stop>
-        ensures read { Reads (spec.let_ self.old) result self.new }
+    fn let_stmt(&mut self) -> Result<Stmt, ParseFault>
+        ensures read { Parses (spec.let_ self.old) result self.new }
         ensures fewer { OnOk result (length self.new < length self.old) }
     {
         self.word(Word::Let)?;
@@ -75,8 +75,8 @@ impl<'a> Cursor<'a> {
 
     /// An assignment to a name, or to a name with an index.
     #[tactic(auto, unfolding(crate::specs::Descent::set))]
-    fn assignment(&mut self) -> Result<Stmt, Stop>
-        ensures read { Reads (spec.set self.old) result self.new }
+    fn assignment(&mut self) -> Result<Stmt, ParseFault>
+        ensures read { Parses (spec.set self.old) result self.new }
         ensures fewer { OnOk result (length self.new < length self.old) }
     {
         let (at, name) = self.name()?;
@@ -98,8 +98,8 @@ impl<'a> Cursor<'a> {
     /// A condition and its block.
     #[cycle(blocks)]
     #[tactic(auto, unfolding(crate::specs::Descent::arm))]
-    fn arm(&mut self) -> Result<(Expr, Block), Stop>
-        ensures read { Reads (spec.arm spec.block self.old) result self.new }
+    fn arm(&mut self) -> Result<(Expr, Block), ParseFault>
+        ensures read { Parses (spec.arm spec.block self.old) result self.new }
         ensures fewer { OnOk result (length self.new < length self.old) }
     {
         let cond = self.expr()?;
@@ -109,9 +109,9 @@ impl<'a> Cursor<'a> {
 
     /// The arms behind `else if` and the block behind a last `else`, so far as there are any.
     #[cycle(blocks)]
-    #[tactic(auto, using(crate::proofs::StatementLoops::arms_nil, crate::proofs::StatementLoops::arms_more, crate::proofs::StatementLoops::arms_stuck, crate::proofs::StatementLoops::last_more, crate::proofs::StatementLoops::last_stuck, crate::proofs::StatementLoops::arms_over))]
-    fn elses(&mut self) -> Result<(Items<(Expr, Block)>, Option<Block>), Stop>
-        ensures read { Reads (spec.elses spec.block self.old) result self.new }
+    #[tactic(auto, using(crate::proofs::StatementLoopLaws::arms_nil, crate::proofs::StatementLoopLaws::arms_more, crate::proofs::StatementLoopLaws::arms_stuck, crate::proofs::StatementLoopLaws::last_more, crate::proofs::StatementLoopLaws::last_stuck, crate::proofs::StatementLoopLaws::arms_over))]
+    fn elses(&mut self) -> Result<(Items<(Expr, Block)>, Option<Block>), ParseFault>
+        ensures read { Parses (spec.elses spec.block self.old) result self.new }
         ensures no_more { OnOk result (length self.new ≤ length self.old) }
     {
         let mut arms = Items::new(self.alloc);
@@ -128,8 +128,8 @@ impl<'a> Cursor<'a> {
     /// An `if` with its further arms.
     #[cycle(blocks)]
     #[tactic(auto, unfolding(crate::specs::Descent::if_))]
-    fn if_stmt(&mut self) -> Result<Stmt, Stop>
-        ensures read { Reads (spec.if_ spec.block self.old) result self.new }
+    fn if_stmt(&mut self) -> Result<Stmt, ParseFault>
+        ensures read { Parses (spec.if_ spec.block self.old) result self.new }
         ensures fewer { OnOk result (length self.new < length self.old) }
     {
         self.word(Word::If)?;
@@ -143,9 +143,9 @@ impl<'a> Cursor<'a> {
 
     /// A `while`.
     #[cycle(blocks)]
-    #[tactic(auto, using(crate::proofs::StatementLoops::while_done, crate::proofs::StatementLoops::while_first, crate::proofs::StatementLoops::while_rest))]
-    fn while_stmt(&mut self) -> Result<Stmt, Stop>
-        ensures read { Reads (spec.while spec.block self.old) result self.new }
+    #[tactic(auto, using(crate::proofs::StatementLoopLaws::while_done, crate::proofs::StatementLoopLaws::while_first, crate::proofs::StatementLoopLaws::while_rest))]
+    fn while_stmt(&mut self) -> Result<Stmt, ParseFault>
+        ensures read { Parses (spec.while spec.block self.old) result self.new }
         ensures fewer { OnOk result (length self.new < length self.old) }
     {
         self.word(Word::While)?;
@@ -156,8 +156,8 @@ impl<'a> Cursor<'a> {
     /// A statement.
     #[cycle(blocks)]
     #[tactic(auto, unfolding(crate::specs::Descent::stmt))]
-    fn stmt(&mut self) -> Result<Stmt, Stop>
-        ensures read { Reads (spec.stmt spec.block self.old) result self.new }
+    fn stmt(&mut self) -> Result<Stmt, ParseFault>
+        ensures read { Parses (spec.stmt spec.block self.old) result self.new }
         ensures fewer { OnOk result (length self.new < length self.old) }
     {
         match self.peek() {
@@ -167,12 +167,12 @@ impl<'a> Cursor<'a> {
             Some(Kind::Word(Word::While)) => self.while_stmt(),
             Some(Kind::Word(Word::Return)) => {
                 self.word(Word::Return)?;
-                let value = self.closed()?;
+                let value = self.expr_semicolon()?;
                 Ok(Stmt::Return { value })
             }
             Some(Kind::Word(Word::Revert)) => {
                 self.word(Word::Revert)?;
-                let value = self.closed()?;
+                let value = self.expr_semicolon()?;
                 Ok(Stmt::Revert { value })
             }
             _ => {
@@ -185,9 +185,9 @@ impl<'a> Cursor<'a> {
 
     /// Statements up to a closing brace.
     #[cycle(blocks)]
-    #[tactic(auto, using(crate::proofs::Loops::front_nil, crate::proofs::StatementLoops::stmts_more, crate::proofs::StatementLoops::stmts_stuck, crate::proofs::StatementLoops::stmts_over))]
-    fn stmts(&mut self) -> Result<Items<Stmt>, Stop>
-        ensures read { Reads (reading.until (reading.is_sign signs.CloseBrace) (spec.stmt spec.block) self.old) result self.new }
+    #[tactic(auto, using(crate::proofs::LoopLaws::front_nil, crate::proofs::StatementLoopLaws::stmts_more, crate::proofs::StatementLoopLaws::stmts_stuck, crate::proofs::StatementLoopLaws::stmts_over))]
+    fn stmts(&mut self) -> Result<Items<Stmt>, ParseFault>
+        ensures read { Parses (reading.until (reading.is_sign signs.CloseBrace) (spec.stmt spec.block) self.old) result self.new }
         ensures no_more { OnOk result (length self.new ≤ length self.old) }
     {
         let mut stmts = Items::new(self.alloc);
@@ -199,9 +199,9 @@ impl<'a> Cursor<'a> {
 
     /// Statements in braces.
     #[cycle(blocks)]
-    #[tactic(auto, using(crate::proofs::StatementLoops::block_by), unfolding(crate::specs::Descent::braced))]
-    pub fn block(&mut self) -> Result<Block, Stop>
-        ensures read { Reads (spec.block self.old) result self.new }
+    #[tactic(auto, using(crate::proofs::StatementLoopLaws::block_by), unfolding(crate::specs::Descent::one_block))]
+    pub fn block(&mut self) -> Result<Block, ParseFault>
+        ensures read { Parses (spec.block self.old) result self.new }
         ensures fewer { OnOk result (length self.new < length self.old) }
     {
         self.sign(Sign::OpenBrace)?;

@@ -1,4 +1,4 @@
-use Rattle.ecf_parser.proofs.Decided.{one_answer}
+use Rattle.ecf_parser.proofs.DecisionLaws.{one_answer}
 use Rattle.ecf_parser.proofs.laws.one_answer.Goals as goal
 
 pub returns : goal.returns

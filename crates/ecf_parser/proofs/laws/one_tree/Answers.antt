@@ -1,4 +1,4 @@
-use Rattle.ecf_parser.proofs.Faults.{one_tree}
+use Rattle.ecf_parser.proofs.FaultLaws.{one_tree}
 use Rattle.ecf_parser.proofs.laws.one_tree.Goals as goal
 
 pub returns : goal.returns

@@ -1,5 +1,6 @@
 use Rattle.std.proofs.Common.{arith}
-use Rattle.ecf_parser.proofs.Answers.{front_len, lexemes_len}
+use Rattle.ecf_parser.proofs.NestingLaws.{lexemes_len}
+use Rattle.ecf_parser.proofs.AnswerLaws.{front_len}
 use Rattle.ecf_parser.proofs.parser.parse.Goals as goal
 
 pub overflow_cast-token : goal.overflow_cast-token

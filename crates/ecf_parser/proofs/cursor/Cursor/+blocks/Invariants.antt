@@ -2,7 +2,7 @@ use Rattle.std.proofs.Common.{◌≡◌, ◌≤◌, length, ◌+◌, ◌*◌}
 use Rattle.ecf_grammar.specs.declared.tokens.Sign.TheVariants as signs
 use Rattle.ecf_parser.specs.Descent as spec
 use Rattle.ecf_parser.specs.Parsers as reading
-use Rattle.ecf_parser.proofs.StatementLoops.{behind_arms}
+use Rattle.ecf_parser.proofs.StatementLoopLaws.{behind_arms}
 use Rattle.ecf_parser.proofs.cursor.Cursor.+blocks.Given as goal
 
 -- the tokens that are left, and how many lines are below one where none was read

@@ -1,5 +1,5 @@
 use Rattle.std.proofs.Common.{rules}
-use Rattle.ecf_parser.proofs.Loops.{terms_exit, terms_keep, factors_exit, factors_keep}
+use Rattle.ecf_parser.proofs.LoopLaws.{terms_exit, terms_keep, factors_exit, factors_keep}
 use Rattle.ecf_parser.proofs.cursor.Cursor.+expressions.Goals as goal
 
 pub terms-terms-preserved : goal.terms-terms-preserved

@@ -79,7 +79,7 @@ abbrev pub decreases-factors-factors : goal.decreases-factors-factors
 decreases-factors-factors l = length l.self
 
 abbrev pub invariant-exprs-further : goal.invariant-exprs-further
-invariant-exprs-further l = record { same : reading.front l.args (reading.each signs.Comma spec.expr l.self) ≡ reading.listed signs.Comma signs.CloseParen spec.expr l.fn.self; fewer : length l.self < length l.fn.self }
+invariant-exprs-further l = record { same : reading.front l.args (reading.each signs.Comma spec.expr l.self) ≡ reading.list_of signs.Comma signs.CloseParen spec.expr l.fn.self; fewer : length l.self < length l.fn.self }
 
 abbrev pub decreases-exprs-further : goal.decreases-exprs-further
 decreases-exprs-further l = length l.self

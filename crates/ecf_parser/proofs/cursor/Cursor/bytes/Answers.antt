@@ -1,5 +1,5 @@
 use Rattle.std.proofs.Common.{arith}
-use Rattle.ecf_parser.proofs.Cursors.{bytes_first}
+use Rattle.ecf_parser.proofs.CursorLaws.{bytes_first}
 use Rattle.ecf_parser.proofs.cursor.Cursor.bytes.Goals as goal
 
 pub returns-in-len1-up : goal.returns-in-len1-up

@@ -5,7 +5,7 @@ use Rattle.ecf_parser.specs.Parsers as reading
 use Rattle.ecf_parser.proofs.cursor.Cursor.pairs.Given as goal
 
 abbrev pub invariant-further : goal.invariant-further
-invariant-further l = record { same : reading.front l.pairs (reading.each signs.Comma spec.entry l.self) ≡ reading.listed signs.Comma signs.CloseBrace spec.entry l.fn.self; fewer : length l.self < length l.fn.self }
+invariant-further l = record { same : reading.front l.pairs (reading.each signs.Comma spec.entry l.self) ≡ reading.list_of signs.Comma signs.CloseBrace spec.entry l.fn.self; fewer : length l.self < length l.fn.self }
 
 abbrev pub decreases-further : goal.decreases-further
 decreases-further l = length l.self

@@ -4,10 +4,11 @@ use Rattle.std.proofs.lemmas.List.Sums.{count_by_more_yes, count_by_more_no}
 use Rattle.ecf_lang.specs.declared.tree.Tree.{Tree}
 use Rattle.ecf_grammar.specs.Lexemes.{Lexeme}
 use Rattle.ecf_grammar.specs.Lexemes.Lexeme.{NumberOf}
-use Rattle.ecf_grammar.specs.Nesting.{opens, closes, nesting, nesting_limit, IsShallow}
+use Rattle.ecf_lang.specs.declared.limits.TheConstants.{MAX_NESTING}
+use Rattle.ecf_grammar.specs.Nesting.{is_opening, is_closing, nesting, IsShallow}
 use Rattle.ecf_grammar.specs.Spells.{Spells, BeginsFile, IsOutOfPlace, IsTooDeep, IsFileOf}
 use Rattle.ecf_parser.specs.FirstDeep.{IsFirstDeep, IsAllShallow}
-use Rattle.ecf_parser.proofs.Faults.{nil_end, take_all, take_len, take_take}
+use Rattle.ecf_parser.proofs.FaultLaws.{nil_end, take_all, take_len, take_take}
 
 -- ---- fronts
 
@@ -41,22 +42,22 @@ none_yet : (p : Lexeme → Bool) (ls : List Lexeme) → count_by p (take 0 ls) �
 none_yet p ls = refl
 
 -- nesting grows by one at most
-just_deep : (ls : List Lexeme) (i : ℕ) → i < length ls → nesting_limit < nesting ls i → IsShallow ls i → nesting ls i ≡ nesting_limit + 1
-just_deep ls zero h deep shallow = let a = counts opens ls 0 h in let e = none_yet opens ls in let up = a.1 in absurd (omega arith)
+just_deep : (ls : List Lexeme) (i : ℕ) → i < length ls → MAX_NESTING < nesting ls i → IsShallow ls i → nesting ls i ≡ MAX_NESTING + 1
+just_deep ls zero h deep shallow = let a = counts is_opening ls 0 h in let e = none_yet is_opening ls in let up = a.1 in absurd (omega arith)
 just_deep ls (suc i) h deep shallow =
-    let before : nesting ls i ≤ nesting_limit = shallow i (omega arith) (omega arith) in
+    let before : nesting ls i ≤ MAX_NESTING = shallow i (omega arith) (omega arith) in
     let e : i + 1 ≡ suc i = omega arith in
-    let up : count_by opens (take (suc i + 1) ls) ≤ count_by opens (take (suc i) ls) + 1 = (counts opens ls (suc i) h).1 in
-    let down : count_by closes (take i ls) ≤ count_by closes (take (suc i) ls) = subst (λ n. count_by closes (take i ls) ≤ count_by closes (take n ls)) e (counts closes ls i (omega arith)).0 in
-    let last : count_by opens (take (suc i) ls) - count_by closes (take i ls) ≤ nesting_limit = subst (λ n. count_by opens (take n ls) - count_by closes (take i ls) ≤ nesting_limit) e before in
+    let up : count_by is_opening (take (suc i + 1) ls) ≤ count_by is_opening (take (suc i) ls) + 1 = (counts is_opening ls (suc i) h).1 in
+    let down : count_by is_closing (take i ls) ≤ count_by is_closing (take (suc i) ls) = subst (λ n. count_by is_closing (take i ls) ≤ count_by is_closing (take n ls)) e (counts is_closing ls i (omega arith)).0 in
+    let last : count_by is_opening (take (suc i) ls) - count_by is_closing (take i ls) ≤ MAX_NESTING = subst (λ n. count_by is_opening (take n ls) - count_by is_closing (take i ls) ≤ MAX_NESTING) e before in
     omega arith
 
 -- ---- behind the front, a token that is too deep
 
 front_nesting : (ls : List Lexeme) (d k : ℕ) → k < d → nesting (take d ls) k ≡ nesting ls k
 front_nesting ls d k lt =
-    let up = ap (count_by opens) (take_take (k + 1) d ls (omega arith)) in
-    let down = ap (count_by closes) (take_take k d ls (omega arith)) in
+    let up = ap (count_by is_opening) (take_take (k + 1) d ls (omega arith)) in
+    let down = ap (count_by is_closing) (take_take k d ls (omega arith)) in
     omega arith
 
 pub front_shallow : (ls : List Lexeme) (d : ℕ) → IsFirstDeep ls d → IsAllShallow (take d ls)

@@ -8,16 +8,16 @@ use Rattle.ecf_lang.specs.declared.tree.Op.{Op}
 use Rattle.ecf_lang.specs.declared.tree.Expr.{Expr}
 use Rattle.ecf_lang.specs.declared.tree.Expr.TheVariants as e
 use Rattle.ecf_lang.specs.declared.tree.CallExpr.TheVariants as c
-use Rattle.ecf_grammar.specs.Lexemes.{Numbered}
+use Rattle.ecf_grammar.specs.Lexemes.{NumberedLexemes}
 use Rattle.ecf_grammar.specs.Lexemes.Lexeme.{NameOf, NumberOf, WordOf, SignOf}
 use Rattle.ecf_grammar.specs.Spells.{Is, either_of, both_of, sum_of, product_of, comparison_op, sum_op, product_op, SpellsExpr, SpellsEithers, SpellsBoth, SpellsBoths, SpellsComparison, SpellsSum, SpellsSums, SpellsProduct, SpellsProducts, SpellsUnary, SpellsAtom, SpellsTarget, SpellsInvoke, SpellsExternal, SpellsArguments, SpellsExprs, SpellsFurther}
 use Rattle.ecf_grammar.specs.Spells.Is.{is}
 use Rattle.ecf_parser.specs.Parsers.{Parser, ◌>>=◌, pure, refuse, is_sign, sign}
-use Rattle.ecf_parser.specs.Descent.{arguments, indexed, target_by, target, external, internal, invoke_by, invoke, atom_by, atom, unary, product, sum, compared, comparison, both, either, expr}
-use Rattle.ecf_parser.proofs.Lawful.{append_nil, Completes, Lawful, fewer, bind, bind_less, last, nothing, refused, widen, chosen, tested, knot, knot_is}
-use Rattle.ecf_parser.proofs.Steps.{Eaten, Operator, Named, less, of_sign, of_word, of_name, of_number, of_eat_sign, of_operator, of_each, of_chain, of_listed}
-use Rattle.ecf_parser.proofs.Steps.Eaten.{eaten, left}
-use Rattle.ecf_parser.proofs.Steps.Operator.{found, absent}
+use Rattle.ecf_parser.specs.Descent.{arguments, index_by, target_by, target, external, internal, invoke_by, invoke, atom_by, atom, unary, product, sum, comparison_by, comparison, both, either, expr}
+use Rattle.ecf_parser.proofs.ParserLaws.{append_nil, Completes, Lawful, fewer, bind, bind_less, last, nothing, refused, widen, chosen, tested, knot, knot_is}
+use Rattle.ecf_parser.proofs.StepLaws.{Eaten, Operator, Named, less, of_sign, of_word, of_name, of_number, of_eat_sign, of_operator, of_each, of_chain, of_listed}
+use Rattle.ecf_parser.proofs.StepLaws.Eaten.{eaten, left}
+use Rattle.ecf_parser.proofs.StepLaws.Operator.{found, absent}
 
 -- ---- the shortest of each
 
@@ -42,7 +42,7 @@ module _ (N : ℕ) (i j : Parser Expr) (h : Lawful N SpellsExpr i j) where
       bind (of_listed SpellsExpr SpellsFurther SpellsExprs s.Comma s.CloseParen SpellsFurther.no_further (λ c a b at x xs p r rs. SpellsFurther.further p r rs) SpellsExprs.no_expr (λ a b x xs r rs. SpellsExprs.exprs r rs) K i j (fewer K N (less K N p le) h)) (λ a args r.
       last (λ _. args) (of_sign s.CloseParen) (λ c at2 q. SpellsArguments.arguments p r q)))
 
-  indexed_law : (n : Numbered) (x : ℕ × List ℕ) → Named n x → (o : Numbered) (b : Bool) → Eaten (SignOf s.OpenBracket) o b → (K : ℕ) → K ≤ suc N - length o → Lawful K (λ b y. SpellsTarget (n ++ (o ++ b)) y) (indexed i x b) (indexed j x b)
+  indexed_law : (n : NumberedLexemes) (x : ℕ × List ℕ) → Named n x → (o : NumberedLexemes) (b : Bool) → Eaten (SignOf s.OpenBracket) o b → (K : ℕ) → K ≤ suc N - length o → Lawful K (λ b y. SpellsTarget (n ++ (o ++ b)) y) (index_by i x b) (index_by j x b)
   indexed_law n x nm o true (eaten p) K le = bind (fewer K N (less K N p le) h) (λ a key r. last (λ _. e.At x.0 x.1 key) (of_sign s.CloseBracket) (λ c at q. SpellsTarget.indexed nm p r q))
   indexed_law n x nm o false left K le = nothing (subst (λ t. SpellsTarget t (e.Name x.0 x.1)) (sym (append_nil n)) (SpellsTarget.name nm))
 
@@ -60,7 +60,7 @@ module _ (N : ℕ) (i j : Parser Expr) (h : Lawful N SpellsExpr i j) where
   unfolding external
   external_law at = bind target_law (λ t called r. bind (of_sign s.Dot) (λ d at1 p. bind of_name (λ n x nm. last (λ args. c.External at called x.0 x.1 args) arguments_law (λ a args q. SpellsExternal.external r p nm q))))
 
-  internal_law : (v : Numbered) (at : ℕ) → Is (WordOf w.SelfWord) v at → Lawful (suc N) (λ b y. SpellsInvoke (v ++ b) y) (internal i at) (internal j at)
+  internal_law : (v : NumberedLexemes) (at : ℕ) → Is (WordOf w.SelfWord) v at → Lawful (suc N) (λ b y. SpellsInvoke (v ++ b) y) (internal i at) (internal j at)
   unfolding internal
   internal_law v at t = bind (of_sign s.Dot) (λ d at1 p. bind of_name (λ n x nm. last (λ args. c.Internal at x.0 x.1 args) arguments_law (λ a args q. SpellsInvoke.internal t p nm q)))
 
@@ -99,7 +99,7 @@ module _ (N : ℕ) (i j : Parser Expr) (h : Lawful N SpellsExpr i j) where
   unfolding sum
   sum_law = bind product_law (λ a first r. last (λ rest. sum_of first rest) (of_chain SpellsProduct SpellsSums sum_op SpellsSums.no_term (λ c a b t at o x xs p q r rs. SpellsSums.term p q r rs) (suc N) (product i) (product j) product_law) (λ b rest rs. SpellsSum.sum r rs))
 
-  compared_law : (a : Numbered) (first : Expr) → SpellsSum a first → (v : Numbered) (o : Option Op) → Operator comparison_op v o → Lawful (suc N) (λ b y. SpellsComparison (a ++ (v ++ b)) y) (compared i first o) (compared j first o)
+  compared_law : (a : NumberedLexemes) (first : Expr) → SpellsSum a first → (v : NumberedLexemes) (o : Option Op) → Operator comparison_op v o → Lawful (suc N) (λ b y. SpellsComparison (a ++ (v ++ b)) y) (comparison_by i first o) (comparison_by j first o)
   compared_law a first r v (Some o) (found p q) = last (λ right. e.Compare first o right) sum_law (λ b right t. SpellsComparison.compared r p q t)
   compared_law a first r v None absent = nothing (subst (λ t. SpellsComparison t first) (sym (append_nil a)) (SpellsComparison.uncompared r))
 
@@ -125,6 +125,6 @@ unfolding expr expr_turn
 expr_law N = knot {S = SpellsExpr} expr_turn some_expr (λ M i j p q _ k. either_law M p q k) N refuse refuse (refused some_expr)
 
 -- an expression is read by the reader of expressions in brackets
-pub expr_is : (ls : Numbered) → expr ls ≡ either expr ls
+pub expr_is : (ls : NumberedLexemes) → expr ls ≡ either expr ls
 unfolding expr expr_turn
 expr_is ls = knot_is {S = SpellsExpr} expr_turn some_expr (λ M i j p q _ k. either_law M p q k) refuse (λ M. refused some_expr) ls

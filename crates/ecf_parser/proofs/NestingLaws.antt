@@ -5,25 +5,26 @@ use Rattle.ecf_grammar.specs.declared.tokens.Kind.{Kind}
 use Rattle.ecf_grammar.specs.declared.tokens.Kind.TheVariants as kind
 use Rattle.ecf_grammar.specs.declared.tokens.Token.{Token}
 use Rattle.ecf_grammar.specs.Lexemes.{Lexeme, lexeme, lexemes_of}
-use Rattle.ecf_grammar.specs.Nesting.{opens, closes, nesting}
+use Rattle.ecf_lang.specs.declared.limits.TheConstants.{MAX_NESTING}
+use Rattle.ecf_grammar.specs.Nesting.{is_opening, is_closing, nesting}
 use Rattle.ecf_parser.specs.FirstDeep.{IsFirstDeep, IsAllShallow}
 
 abbrev pub opens_token : Token → Bool
-opens_token t = opens (lexeme t.kind [])
+opens_token t = is_opening (lexeme t.kind [])
 
 abbrev pub closes_token : Token → Bool
-closes_token t = closes (lexeme t.kind [])
+closes_token t = is_closing (lexeme t.kind [])
 
 abbrev pub depth : List Token → ℕ → ℕ
 depth tokens n = count_by opens_token (take (n + 1) tokens) - count_by closes_token (take n tokens)
 
-opens_any : (k : Kind) (bytes : List ℕ) → opens (lexeme k bytes) ≡ opens (lexeme k [])
+opens_any : (k : Kind) (bytes : List ℕ) → is_opening (lexeme k bytes) ≡ is_opening (lexeme k [])
 opens_any kind.Name bytes = refl
 opens_any (kind.Number v) bytes = refl
 opens_any (kind.Word v) bytes = refl
 opens_any (kind.Sign v) bytes = refl
 
-closes_any : (k : Kind) (bytes : List ℕ) → closes (lexeme k bytes) ≡ closes (lexeme k [])
+closes_any : (k : Kind) (bytes : List ℕ) → is_closing (lexeme k bytes) ≡ is_closing (lexeme k [])
 closes_any kind.Name bytes = refl
 closes_any (kind.Number v) bytes = refl
 closes_any (kind.Word v) bytes = refl
@@ -39,23 +40,20 @@ module _ (p : Lexeme → Bool) (q : Token → Bool) (source : List ℕ) (same : 
   count_along : (tokens : List Token) (n : ℕ) → count_by p (take n (lexemes_of source tokens)) ≡ count_by q (take n tokens)
   count_along tokens n = count_from tokens n 0
 
-  len_along : (tokens : List Token) → length (lexemes_of source tokens) ≡ length tokens
-  len_along [] = refl
-  len_along (t ∷ tokens) = omega (arith, len_along tokens)
-
-lexemes_len : (source : List ℕ) (tokens : List Token) → length (lexemes_of source tokens) ≡ length tokens
-lexemes_len source tokens = len_along opens opens_token source (λ t. opens_any t.kind (slice_range source t.start t.end)) tokens
+pub lexemes_len : (source : List ℕ) (tokens : List Token) → length (lexemes_of source tokens) ≡ length tokens
+lexemes_len source [] = refl
+lexemes_len source (t ∷ tokens) = omega (arith, lexemes_len source tokens)
 
 nesting_is : (source : List ℕ) (tokens : List Token) (n : ℕ) → nesting (lexemes_of source tokens) n ≡ depth tokens n
 nesting_is source tokens n =
-    let o = count_along opens opens_token source (λ t. opens_any t.kind (slice_range source t.start t.end)) tokens (n + 1) in
-    let c = count_along closes closes_token source (λ t. closes_any t.kind (slice_range source t.start t.end)) tokens n in
+    let o = count_along is_opening opens_token source (λ t. opens_any t.kind (slice_range source t.start t.end)) tokens (n + 1) in
+    let c = count_along is_closing closes_token source (λ t. closes_any t.kind (slice_range source t.start t.end)) tokens n in
     omega (arith, o, c)
 
-pub all_shallow : (source : List ℕ) (tokens : List Token) → ((k : ℕ) → k < length tokens → depth tokens k ≤ 64) → IsAllShallow (lexemes_of source tokens)
+pub all_shallow : (source : List ℕ) (tokens : List Token) → ((k : ℕ) → k < length tokens → depth tokens k ≤ MAX_NESTING) → IsAllShallow (lexemes_of source tokens)
 all_shallow source tokens h = λ k below within. let deep = h k (omega (arith, lexemes_len source tokens)) in omega (arith, nesting_is source tokens k)
 
-pub first_deep : (source : List ℕ) (tokens : List Token) (at : ℕ) → at < length tokens → 64 < depth tokens at → ((k : ℕ) → k < at → depth tokens k ≤ 64) → IsFirstDeep (lexemes_of source tokens) at
+pub first_deep : (source : List ℕ) (tokens : List Token) (at : ℕ) → at < length tokens → MAX_NESTING < depth tokens at → ((k : ℕ) → k < at → depth tokens k ≤ MAX_NESTING) → IsFirstDeep (lexemes_of source tokens) at
 first_deep source tokens at below deep h = record {
   within = omega (arith, lexemes_len source tokens);
   deep = omega (arith, nesting_is source tokens at);

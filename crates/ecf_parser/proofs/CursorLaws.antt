@@ -7,11 +7,11 @@ use Rattle.ecf_grammar.specs.declared.tokens.Token.{Token}
 use Rattle.ecf_grammar.specs.declared.tokens.Word.{Word}
 use Rattle.ecf_grammar.specs.declared.tokens.Sign.{Sign}
 use Rattle.ecf_lang.specs.declared.tree.Op.{Op}
-use Rattle.ecf_grammar.specs.Lexemes.{Numbered, lexeme, numbered, lexemes_of}
+use Rattle.ecf_grammar.specs.Lexemes.{NumberedLexemes, lexeme, with_numbers, lexemes_of}
 use Rattle.ecf_grammar.specs.Lexemes.Lexeme.{NameOf, NumberOf, WordOf, SignOf}
-use Rattle.ecf_parser.specs.Parsers.{next, number_of, behind, is_sign, is_word, kind_of, is_name, number_in, bytes_in, bytes_of, sign, word, name, number, eat_sign, eat_word, op_at, took, operator}
+use Rattle.ecf_parser.specs.Parsers.{next, number_of, behind, is_sign, is_word, kind_of, is_name, number_in, bytes_in, bytes_of, sign, word, name, number, eat_sign, eat_word, op_at, operator_read, operator}
 
-pub ahead_len : (at : ℕ) (source : List ℕ) (tokens : List Token) → length (numbered at (lexemes_of source tokens)) ≡ length tokens
+pub ahead_len : (at : ℕ) (source : List ℕ) (tokens : List Token) → length (with_numbers at (lexemes_of source tokens)) ≡ length tokens
 ahead_len at source [] = refl
 ahead_len at source (t ∷ ts) = omega (arith, ahead_len (at + 1) source ts)
 
@@ -39,23 +39,23 @@ pub some_op : (table : Sign → Option Op) (k : Option Kind) (o : Op) → op_at 
 some_op table None o h = absurd cc
 some_op table (Some k) o h = refl
 
-pub sign_taken : (s : Sign) (ls : Numbered) → is_sign s (next ls) ≡ true → sign s ls ≡ Ok (number_of ls, behind ls)
+pub sign_taken : (s : Sign) (ls : NumberedLexemes) → is_sign s (next ls) ≡ true → sign s ls ≡ Ok (number_of ls, behind ls)
 unfolding sign
 sign_taken s ls h = ap (λ b. cond b (Ok (number_of ls, behind ls)) (Err ls)) h
 
-pub sign_left : (s : Sign) (ls : Numbered) → is_sign s (next ls) ≡ false → sign s ls ≡ Err ls
+pub sign_left : (s : Sign) (ls : NumberedLexemes) → is_sign s (next ls) ≡ false → sign s ls ≡ Err ls
 unfolding sign
 sign_left s ls h = ap (λ b. cond b (Ok (number_of ls, behind ls)) (Err ls)) h
 
-pub word_taken : (w : Word) (ls : Numbered) → is_word w (next ls) ≡ true → word w ls ≡ Ok (number_of ls, behind ls)
+pub word_taken : (w : Word) (ls : NumberedLexemes) → is_word w (next ls) ≡ true → word w ls ≡ Ok (number_of ls, behind ls)
 unfolding word
 word_taken w ls h = ap (λ b. cond b (Ok (number_of ls, behind ls)) (Err ls)) h
 
-pub word_left : (w : Word) (ls : Numbered) → is_word w (next ls) ≡ false → word w ls ≡ Err ls
+pub word_left : (w : Word) (ls : NumberedLexemes) → is_word w (next ls) ≡ false → word w ls ≡ Err ls
 unfolding word
 word_left w ls h = ap (λ b. cond b (Ok (number_of ls, behind ls)) (Err ls)) h
 
-pub name_taken : (ls : Numbered) → is_name (next ls) ≡ true → name ls ≡ Ok ((number_of ls, bytes_of ls), behind ls)
+pub name_taken : (ls : NumberedLexemes) → is_name (next ls) ≡ true → name ls ≡ Ok ((number_of ls, bytes_of ls), behind ls)
 unfolding name is_name
 name_taken [] h = absurd cc
 name_taken ((at, NameOf bytes) ∷ ls) h = refl
@@ -63,7 +63,7 @@ name_taken ((at, NumberOf v) ∷ ls) h = absurd cc
 name_taken ((at, WordOf v) ∷ ls) h = absurd cc
 name_taken ((at, SignOf v) ∷ ls) h = absurd cc
 
-pub name_left : (ls : Numbered) → is_name (next ls) ≡ false → name ls ≡ Err ls
+pub name_left : (ls : NumberedLexemes) → is_name (next ls) ≡ false → name ls ≡ Err ls
 unfolding name is_name
 name_left [] h = refl
 name_left ((at, NameOf bytes) ∷ ls) h = absurd cc
@@ -71,7 +71,7 @@ name_left ((at, NumberOf v) ∷ ls) h = refl
 name_left ((at, WordOf v) ∷ ls) h = refl
 name_left ((at, SignOf v) ∷ ls) h = refl
 
-pub number_taken : (ls : Numbered) (value : ℕ) → number_in (next ls) ≡ Some value → number ls ≡ Ok ((number_of ls, value), behind ls)
+pub number_taken : (ls : NumberedLexemes) (value : ℕ) → number_in (next ls) ≡ Some value → number ls ≡ Ok ((number_of ls, value), behind ls)
 unfolding number number_in
 number_taken [] value h = absurd cc
 number_taken ((at, NumberOf v) ∷ ls) value h = let e : v ≡ value = cc in ap (λ n. Ok ((at, n), ls)) e
@@ -79,7 +79,7 @@ number_taken ((at, NameOf v) ∷ ls) value h = absurd cc
 number_taken ((at, WordOf v) ∷ ls) value h = absurd cc
 number_taken ((at, SignOf v) ∷ ls) value h = absurd cc
 
-pub number_left : (ls : Numbered) → number_in (next ls) ≡ None → number ls ≡ Err ls
+pub number_left : (ls : NumberedLexemes) → number_in (next ls) ≡ None → number ls ≡ Err ls
 unfolding number number_in
 number_left [] h = refl
 number_left ((at, NumberOf v) ∷ ls) h = absurd cc
@@ -87,17 +87,17 @@ number_left ((at, NameOf v) ∷ ls) h = refl
 number_left ((at, WordOf v) ∷ ls) h = refl
 number_left ((at, SignOf v) ∷ ls) h = refl
 
-pub sign_eaten : (s : Sign) (ls : Numbered) → is_sign s (next ls) ≡ true → eat_sign s ls ≡ Ok (true, behind ls)
+pub sign_eaten : (s : Sign) (ls : NumberedLexemes) → is_sign s (next ls) ≡ true → eat_sign s ls ≡ Ok (true, behind ls)
 unfolding eat_sign
 sign_eaten s ls h = ap (λ b. cond b (Ok (true, behind ls)) (Ok (false, ls))) h
 
-pub word_eaten : (w : Word) (ls : Numbered) → is_word w (next ls) ≡ true → eat_word w ls ≡ Ok (true, behind ls)
+pub word_eaten : (w : Word) (ls : NumberedLexemes) → is_word w (next ls) ≡ true → eat_word w ls ≡ Ok (true, behind ls)
 unfolding eat_word
 word_eaten w ls h = ap (λ b. cond b (Ok (true, behind ls)) (Ok (false, ls))) h
 
-pub op_eaten : (table : Sign → Option Op) (ls : Numbered) (o : Op) → op_at table (next ls) ≡ Some o → operator table ls ≡ Ok (Some o, behind ls)
+pub op_eaten : (table : Sign → Option Op) (ls : NumberedLexemes) (o : Op) → op_at table (next ls) ≡ Some o → operator table ls ≡ Ok (Some o, behind ls)
 unfolding operator
-op_eaten table ls o h = ap (λ x. took x ls) h
+op_eaten table ls o h = ap (λ x. operator_read x ls) h
 
 pub bytes_ahead : (k : Kind) (bytes : List ℕ) → is_name (Some (kind_of (lexeme k bytes))) ≡ true → bytes_in (lexeme k bytes) ≡ bytes
 unfolding is_name
@@ -106,8 +106,8 @@ bytes_ahead (kind.Number v) bytes h = absurd cc
 bytes_ahead (kind.Word v) bytes h = absurd cc
 bytes_ahead (kind.Sign v) bytes h = absurd cc
 
-pub bytes_first : (ls : Numbered) (at : ℕ) (source : List ℕ) (tokens : List Token) (d : Token) → ls ≡ numbered at (lexemes_of source tokens) → 0 < length tokens → is_name (next ls) ≡ true → take ((get_or tokens 0 d).end - (get_or tokens 0 d).start) (drop (get_or tokens 0 d).start source) ≡ bytes_of ls
+pub bytes_first : (ls : NumberedLexemes) (at : ℕ) (source : List ℕ) (tokens : List Token) (d : Token) → ls ≡ with_numbers at (lexemes_of source tokens) → 0 < length tokens → is_name (next ls) ≡ true → take ((get_or tokens 0 d).end - (get_or tokens 0 d).start) (drop (get_or tokens 0 d).start source) ≡ bytes_of ls
 bytes_first ls at source [] d e some h = absurd (omega arith)
 bytes_first ls at source (t ∷ ts) d e some h =
-    let here : is_name (next (numbered at (lexemes_of source (t ∷ ts)))) ≡ true = subst (λ x. is_name (next x) ≡ true) e h in
+    let here : is_name (next (with_numbers at (lexemes_of source (t ∷ ts)))) ≡ true = subst (λ x. is_name (next x) ≡ true) e h in
     sym (bytes_ahead t.kind (slice_range source t.start t.end) here) ∙ ap bytes_of (sym e)

@@ -9,16 +9,16 @@ use Rattle.ecf_lang.specs.declared.tree.Const.TheVariants as const
 use Rattle.ecf_lang.specs.declared.tree.Member.{Member}
 use Rattle.ecf_lang.specs.declared.tree.Member.TheVariants as m
 use Rattle.ecf_lang.specs.declared.tree.ObjectDecl.{ObjectDecl}
-use Rattle.ecf_grammar.specs.Lexemes.{Lexeme, Numbered}
+use Rattle.ecf_grammar.specs.Lexemes.{Lexeme, NumberedLexemes}
 use Rattle.ecf_grammar.specs.Lexemes.Lexeme.{SignOf}
 use Rattle.ecf_grammar.specs.Spells.{Is, SpellsType, SpellsConst, SpellsEntry, SpellsParam, SpellsAll, SpellsMore, SpellsList, SpellsFirst, SpellsEntries, SpellsMember, SpellsObject, SpellsFile}
 use Rattle.ecf_grammar.specs.Spells.Is.{is}
 use Rattle.ecf_parser.specs.Parsers.{is_sign}
 use Rattle.ecf_parser.specs.Descent.{const_by, constant, entry, param, first_by, first, entries_by, entries, field, map, method, member_by, member, object, at_end, file}
-use Rattle.ecf_parser.proofs.Lawful.{Lawful, bind, last, nothing, chosen}
-use Rattle.ecf_parser.proofs.Steps.{Eaten, of_sign, of_word, of_name, of_number, of_eat_sign, of_until, of_listed}
-use Rattle.ecf_parser.proofs.Steps.Eaten.{eaten, left}
-use Rattle.ecf_parser.proofs.Statements.{type_law, block_law}
+use Rattle.ecf_parser.proofs.ParserLaws.{Lawful, bind, last, nothing, chosen}
+use Rattle.ecf_parser.proofs.StepLaws.{Eaten, of_sign, of_word, of_name, of_number, of_eat_sign, of_until, of_listed}
+use Rattle.ecf_parser.proofs.StepLaws.Eaten.{eaten, left}
+use Rattle.ecf_parser.proofs.StatementLaws.{type_law, block_law}
 
 const_law_by : {N : ℕ} (k : Option Kind) → Lawful N SpellsConst (const_by k) (const_by k)
 const_law_by (Some (kind.Number _)) = last (λ n. const.Number n.0 n.1) of_number (λ a n p. SpellsConst.number p)
@@ -38,7 +38,7 @@ pub param_law : {N : ℕ} → Lawful N SpellsParam param param
 unfolding param
 param_law = bind of_name (λ n x nm. bind (of_sign s.Colon) (λ c at p. last (λ k. record { at = x.0; name = x.1; ty = k }) type_law (λ t k r. SpellsParam.param nm p r)))
 
-first_law_by : {N : ℕ} (q : Numbered) (b : Bool) → Eaten (SignOf s.Assign) q b → Lawful N (λ b y. SpellsFirst (q ++ b) y) (first_by b) (first_by b)
+first_law_by : {N : ℕ} (q : NumberedLexemes) (b : Bool) → Eaten (SignOf s.Assign) q b → Lawful N (λ b y. SpellsFirst (q ++ b) y) (first_by b) (first_by b)
 first_law_by q true (eaten p) = last (λ v. Some v) constant_law (λ a v r. SpellsFirst.first p r)
 first_law_by q false left = nothing SpellsFirst.no_first
 
@@ -46,7 +46,7 @@ first_law : {N : ℕ} → Lawful N SpellsFirst first first
 unfolding first
 first_law = bind (of_eat_sign s.Assign) (λ q b p. first_law_by q b p)
 
-entries_law_by : {N : ℕ} (q : Numbered) (b : Bool) → Eaten (SignOf s.Assign) q b → Lawful N (λ b y. SpellsEntries (q ++ b) y) (entries_by b) (entries_by b)
+entries_law_by : {N : ℕ} (q : NumberedLexemes) (b : Bool) → Eaten (SignOf s.Assign) q b → Lawful N (λ b y. SpellsEntries (q ++ b) y) (entries_by b) (entries_by b)
 entries_law_by {N} q true (eaten p) = bind (of_sign s.OpenBrace) (λ o at p1. bind (of_listed SpellsEntry (SpellsMore SpellsEntry) (SpellsList SpellsEntry) s.Comma s.CloseBrace SpellsMore.none (λ c a b at x xs p r rs. SpellsMore.more p r rs) SpellsList.empty (λ a b x xs r rs. SpellsList.list r rs) N entry entry entry_law) (λ a pairs r. last (λ _. pairs) (of_sign s.CloseBrace) (λ c at2 p2. SpellsEntries.entries p p1 r p2)))
 entries_law_by q false left = nothing SpellsEntries.no_entries
 
@@ -75,20 +75,20 @@ pub member_law : {N : ℕ} → Lawful N SpellsMember member member
 unfolding member
 member_law = chosen member_by member_by member_law_by
 
-front_len : {l : Lexeme} {a : Numbered} {at : ℕ} (b : Numbered) → Is l a at → 0 < length (a ++ b)
+front_len : {l : Lexeme} {a : NumberedLexemes} {at : ℕ} (b : NumberedLexemes) → Is l a at → 0 < length (a ++ b)
 front_len b (is at) = omega arith
 
-type_len : {a : Numbered} {k : Ty} (b : Numbered) → SpellsType a k → 0 < length (a ++ b)
+type_len : {a : NumberedLexemes} {k : Ty} (b : NumberedLexemes) → SpellsType a k → 0 < length (a ++ b)
 type_len b (SpellsType.num p) = front_len b p
 type_len b (SpellsType.flag p) = front_len b p
 type_len b (SpellsType.addr p) = front_len b p
 
-pub member_len : (a : Numbered) (x : Member) → SpellsMember a x → 0 < length a
+pub member_len : (a : NumberedLexemes) (x : Member) → SpellsMember a x → 0 < length a
 member_len a x (SpellsMember.field p _ _ _) = type_len _ p
 member_len a x (SpellsMember.map p _ _ _ _ _ _ _) = front_len _ p
 member_len a x (SpellsMember.method p _ _ _ _ _ _ _) = front_len _ p
 
-pub object_len : (a : Numbered) (x : ObjectDecl) → SpellsObject a x → 0 < length a
+pub object_len : (a : NumberedLexemes) (x : ObjectDecl) → SpellsObject a x → 0 < length a
 object_len a x (SpellsObject.object p _ _ _ _) = front_len _ p
 
 pub object_law : {N : ℕ} → Lawful N SpellsObject object object
