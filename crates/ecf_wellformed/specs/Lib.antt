@@ -1,3 +1,4 @@
 pub mod Typing
 pub mod WellFormed
 pub mod Cases
+pub mod Numbering

@@ -43,11 +43,11 @@ pub data IsOrder : Op → Type 0 where
   greater_equal : IsOrder op.Ge
 
 -- the locals that are visible, each by its number and type
-abbrev pub Visible : Type 0
-Visible = List (ℕ × Ty)
+abbrev pub Scope : Type 0
+Scope = List (ℕ × Ty)
 
 -- a local of that type is visible
-abbrev pub Sees : Visible → ℕ → Ty → Type 0
+abbrev pub Sees : Scope → ℕ → Ty → Type 0
 Sees visible local ty = find (λ v. v.0 == local) visible ≡ Some (local, ty)
 
 -- some object has a method of that name
@@ -56,13 +56,13 @@ IsMethodName typed name = Any (λ object. IsSome (method_of object name)) typed.
 
 module _ (typed : Typed) (own : TypedObject) where
   -- what a name in an expression stands for, and its type
-  pub data PlaceHas (visible : Visible) : Place → Ty → Type 0 where
+  pub data PlaceHas (visible : Scope) : Place → Ty → Type 0 where
     local : {n : ℕ} {ty : Ty} → Sees visible n ty → PlaceHas visible (place.Local n) ty
     plain : {n : ℕ} {field : TypedField} {ty : Ty} → slice_get own.fields n ≡ Some field → field.kind ≡ kind.Plain ty → PlaceHas visible (place.Plain n) ty
     object : {n : ℕ} → n < length typed.objects → PlaceHas visible (place.Object n) Addr
 
   -- what an assignment without an index changes, and its type
-  pub data AssigneeHas (visible : Visible) : Assignee → Ty → Type 0 where
+  pub data AssigneeHas (visible : Scope) : Assignee → Ty → Type 0 where
     local : {n : ℕ} {ty : Ty} → Sees visible n ty → AssigneeHas visible (assignee.Local n) ty
     plain : {n : ℕ} {field : TypedField} {ty : Ty} → slice_get own.fields n ≡ Some field → field.kind ≡ kind.Plain ty → AssigneeHas visible (assignee.Plain n) ty
 
@@ -72,7 +72,7 @@ module _ (typed : Typed) (own : TypedObject) where
 
   mutual
     -- an expression and its type
-    pub data HasType (visible : Visible) : TypedExpr → Ty → Type 0 where
+    pub data HasType (visible : Scope) : TypedExpr → Ty → Type 0 where
       number : {value : ℕ} → value < 2 ^ 128 → HasType visible (expr.Number value) Num
       flag : {value : Bool} → HasType visible (expr.Flag value) Flag
       here : HasType visible expr.Here Addr
@@ -88,54 +88,54 @@ module _ (typed : Typed) (own : TypedObject) where
       or : {first second : TypedExpr} {rest : List TypedExpr} → AreFlags visible (first ∷ second ∷ rest) → HasType visible (expr.Or (first ∷ second ∷ rest)) Flag
 
     -- a call and the type of its answer
-    pub data Calls (visible : Visible) : TypedCall → Ty → Type 0 where
+    pub data Calls (visible : Scope) : TypedCall → Ty → Type 0 where
       external : {target : TypedExpr} {name : ℕ} {args : List TypedExpr} {signature : Signature} → HasType visible target Addr → IsMethodName typed name → slice_get typed.signatures name ≡ Some signature → HaveTypes visible args signature.params → Calls visible (called.External target name args) signature.answer
       internal : {name : ℕ} {args : List TypedExpr} {signature : Signature} → IsSome (method_of own name) → slice_get typed.signatures name ≡ Some signature → HaveTypes visible args signature.params → Calls visible (called.Internal name args) signature.answer
 
     -- arguments and their types, as many of one as of the other
-    pub data HaveTypes (visible : Visible) : List TypedExpr → List Ty → Type 0 where
+    pub data HaveTypes (visible : Scope) : List TypedExpr → List Ty → Type 0 where
       no_argument : HaveTypes visible [] []
       argument : {first : TypedExpr} {ty : Ty} {args : List TypedExpr} {tys : List Ty} → HasType visible first ty → HaveTypes visible args tys → HaveTypes visible (first ∷ args) (ty ∷ tys)
 
     -- further parts of a sum or product
-    pub data AreNums (visible : Visible) : List (Op × TypedExpr) → Type 0 where
+    pub data AreNums (visible : Scope) : List (Op × TypedExpr) → Type 0 where
       no_part : AreNums visible []
       part : {o : Op} {first : TypedExpr} {rest : List (Op × TypedExpr)} → HasType visible first Num → AreNums visible rest → AreNums visible ((o, first) ∷ rest)
 
     -- parts of an && or ||
-    pub data AreFlags (visible : Visible) : List TypedExpr → Type 0 where
+    pub data AreFlags (visible : Scope) : List TypedExpr → Type 0 where
       no_flag : AreFlags visible []
       flags : {first : TypedExpr} {rest : List TypedExpr} → HasType visible first Flag → AreFlags visible rest → AreFlags visible (first ∷ rest)
 
   -- Statements of a method that answers such a type. Before and behind each stand the visible locals and the number of the next one.
   module _ (answer : Ty) where
     mutual
-      pub data IsStmt : Visible → ℕ → TypedStmt → Visible → ℕ → Type 0 where
-        let_local : {visible : Visible} {next : ℕ} {ty : Ty} {value : TypedExpr} → HasType visible value ty → IsStmt visible next (stmt.Let next ty value) ((next, ty) ∷ visible) (suc next)
-        try_call : {visible : Visible} {next name : ℕ} {target : TypedExpr} {args : List TypedExpr} {ty : Ty} → Calls visible (called.External target name args) ty → IsStmt visible next (stmt.Try next target name args) ((next, Flag) ∷ visible) (suc next)
-        set : {visible : Visible} {next : ℕ} {to : Assignee} {ty : Ty} {value : TypedExpr} → AssigneeHas visible to ty → HasType visible value ty → IsStmt visible next (stmt.Set to value) visible next
-        set_at : {visible : Visible} {next field : ℕ} {key value : TypedExpr} {key_ty ty : Ty} → MapHas field key_ty ty → HasType visible key key_ty → HasType visible value ty → IsStmt visible next (stmt.SetAt field key value) visible next
-        choice : {visible : Visible} {next between behind : ℕ} {first : TypedExpr × TypedBlock} {arms : List (TypedExpr × TypedBlock)} {last : Option TypedBlock} → AreArms visible next (first ∷ arms) between → IsLast visible between last behind → IsStmt visible next (stmt.If (first ∷ arms) last) visible behind
-        while : {visible : Visible} {next behind : ℕ} {cond : TypedExpr} {body : TypedBlock} → HasType visible cond Flag → IsBlock visible next body behind → IsStmt visible next (stmt.While cond body) visible behind
-        return : {visible : Visible} {next : ℕ} {value : TypedExpr} → HasType visible value answer → IsStmt visible next (stmt.Return value) visible next
-        revert : {visible : Visible} {next : ℕ} {value : TypedExpr} → HasType visible value Num → IsStmt visible next (stmt.Revert value) visible next
-        do_call : {visible : Visible} {next : ℕ} {c : TypedCall} {ty : Ty} → Calls visible c ty → IsStmt visible next (stmt.Do c) visible next
+      pub data IsStmt : Scope → ℕ → TypedStmt → Scope → ℕ → Type 0 where
+        let_local : {visible : Scope} {next : ℕ} {ty : Ty} {value : TypedExpr} → HasType visible value ty → IsStmt visible next (stmt.Let next ty value) ((next, ty) ∷ visible) (suc next)
+        try_call : {visible : Scope} {next name : ℕ} {target : TypedExpr} {args : List TypedExpr} {ty : Ty} → Calls visible (called.External target name args) ty → IsStmt visible next (stmt.Try next target name args) ((next, Flag) ∷ visible) (suc next)
+        set : {visible : Scope} {next : ℕ} {to : Assignee} {ty : Ty} {value : TypedExpr} → AssigneeHas visible to ty → HasType visible value ty → IsStmt visible next (stmt.Set to value) visible next
+        set_at : {visible : Scope} {next field : ℕ} {key value : TypedExpr} {key_ty ty : Ty} → MapHas field key_ty ty → HasType visible key key_ty → HasType visible value ty → IsStmt visible next (stmt.SetAt field key value) visible next
+        choice : {visible : Scope} {next between behind : ℕ} {first : TypedExpr × TypedBlock} {arms : List (TypedExpr × TypedBlock)} {last : Option TypedBlock} → AreArms visible next (first ∷ arms) between → IsLast visible between last behind → IsStmt visible next (stmt.If (first ∷ arms) last) visible behind
+        while : {visible : Scope} {next behind : ℕ} {cond : TypedExpr} {body : TypedBlock} → HasType visible cond Flag → IsBlock visible next body behind → IsStmt visible next (stmt.While cond body) visible behind
+        return : {visible : Scope} {next : ℕ} {value : TypedExpr} → HasType visible value answer → IsStmt visible next (stmt.Return value) visible next
+        revert : {visible : Scope} {next : ℕ} {value : TypedExpr} → HasType visible value Num → IsStmt visible next (stmt.Revert value) visible next
+        do_call : {visible : Scope} {next : ℕ} {c : TypedCall} {ty : Ty} → Calls visible c ty → IsStmt visible next (stmt.Do c) visible next
 
       -- statements one after the other, and the number of the next local behind them
-      pub data AreStmts : Visible → ℕ → List TypedStmt → ℕ → Type 0 where
-        no_stmt : {visible : Visible} {next : ℕ} → AreStmts visible next [] next
-        stmts : {visible visible_then : Visible} {next between behind : ℕ} {first : TypedStmt} {rest : List TypedStmt} → IsStmt visible next first visible_then between → AreStmts visible_then between rest behind → AreStmts visible next (first ∷ rest) behind
+      pub data AreStmts : Scope → ℕ → List TypedStmt → ℕ → Type 0 where
+        no_stmt : {visible : Scope} {next : ℕ} → AreStmts visible next [] next
+        stmts : {visible visible_then : Scope} {next between behind : ℕ} {first : TypedStmt} {rest : List TypedStmt} → IsStmt visible next first visible_then between → AreStmts visible_then between rest behind → AreStmts visible next (first ∷ rest) behind
 
       -- a block: what it declares is visible to its end
-      pub data IsBlock : Visible → ℕ → TypedBlock → ℕ → Type 0 where
-        block : {visible : Visible} {next behind : ℕ} {all : List TypedStmt} → AreStmts visible next all behind → IsBlock visible next (roll-TypedBlock (record { stmts = all })) behind
+      pub data IsBlock : Scope → ℕ → TypedBlock → ℕ → Type 0 where
+        block : {visible : Scope} {next behind : ℕ} {all : List TypedStmt} → AreStmts visible next all behind → IsBlock visible next (roll-TypedBlock (record { stmts = all })) behind
 
       -- conditions with their blocks
-      pub data AreArms : Visible → ℕ → List (TypedExpr × TypedBlock) → ℕ → Type 0 where
-        no_arm : {visible : Visible} {next : ℕ} → AreArms visible next [] next
-        arm : {visible : Visible} {next between behind : ℕ} {cond : TypedExpr} {body : TypedBlock} {rest : List (TypedExpr × TypedBlock)} → HasType visible cond Flag → IsBlock visible next body between → AreArms visible between rest behind → AreArms visible next ((cond, body) ∷ rest) behind
+      pub data AreArms : Scope → ℕ → List (TypedExpr × TypedBlock) → ℕ → Type 0 where
+        no_arm : {visible : Scope} {next : ℕ} → AreArms visible next [] next
+        arm : {visible : Scope} {next between behind : ℕ} {cond : TypedExpr} {body : TypedBlock} {rest : List (TypedExpr × TypedBlock)} → HasType visible cond Flag → IsBlock visible next body between → AreArms visible between rest behind → AreArms visible next ((cond, body) ∷ rest) behind
 
       -- the last block, where there is one
-      pub data IsLast : Visible → ℕ → Option TypedBlock → ℕ → Type 0 where
-        no_last : {visible : Visible} {next : ℕ} → IsLast visible next None next
-        last : {visible : Visible} {next behind : ℕ} {body : TypedBlock} → IsBlock visible next body behind → IsLast visible next (Some body) behind
+      pub data IsLast : Scope → ℕ → Option TypedBlock → ℕ → Type 0 where
+        no_last : {visible : Scope} {next : ℕ} → IsLast visible next None next
+        last : {visible : Scope} {next behind : ℕ} {body : TypedBlock} → IsBlock visible next body behind → IsLast visible next (Some body) behind

@@ -1,5 +1,5 @@
-use Rattle.ecf_formed.proofs.CounterProof.{is_well_formed, flag_is_no_number}
-use Rattle.ecf_formed.proofs.counter.Goals as goal
+use Rattle.ecf_wellformed.proofs.CounterLaws.{is_well_formed, flag_is_no_number}
+use Rattle.ecf_wellformed.proofs.counter.Goals as goal
 
 -- src/lib.rt:7:1
 pub returns-clause-is_well_formed : goal.returns-clause-is_well_formed

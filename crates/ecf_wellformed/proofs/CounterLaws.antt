@@ -21,9 +21,9 @@ use Rattle.ecf_lang.specs.declared.typed.TypedBlock.{TypedBlock, roll-TypedBlock
 use Rattle.ecf_grammar.specs.declared.tokens.Word.{Word}
 use Rattle.ecf_grammar.specs.declared.tokens.Word.TheVariants as word
 use Rattle.ecf_grammar.specs.Spelling.{word_text, IsName}
-use Rattle.ecf_formed.specs.Typing.{Visible, IsMethodName, IsOfSum, HasType, PlaceHas, AssigneeHas, AreNums, IsStmt, AreStmts, IsBlock}
-use Rattle.ecf_formed.specs.WellFormed.{IsField, IsMethod, IsObject}
-use Rattle.ecf_formed.specs.Cases.{counter, one_more, IsWellFormed, FlagIsNoNumber}
+use Rattle.ecf_wellformed.specs.Typing.{Scope, IsMethodName, IsOfSum, HasType, PlaceHas, AssigneeHas, AreNums, IsStmt, AreStmts, IsBlock}
+use Rattle.ecf_wellformed.specs.WellFormed.{IsField, IsMethod, IsObject}
+use Rattle.ecf_wellformed.specs.Cases.{counter, one_more, CounterIsWellFormed, FlagIsNoNumber}
 
 abbrev same : List ℕ → List ℕ → Bool
 same [] [] = true
@@ -164,7 +164,7 @@ used : (name : ℕ) → name < 1 → IsMethodName contract name
 used zero within = (0, own, omega arith, refl, refl)
 used (suc n) within = absurd (omega (arith, within))
 
-pub is_well_formed : IsWellFormed
+pub is_well_formed : CounterIsWellFormed
 is_well_formed = record {
   few_objects = omega arith;
   object_names = one (λ a b. a ≢ b) (codes "Counter");
@@ -183,7 +183,7 @@ flagged = counter (expr.Flag true)
 abbrev flag_own : TypedObject
 flag_own = object_with (expr.Flag true)
 
-flag_num : {visible : Visible} {ty : Ty} → ty ≡ Num → HasType flagged flag_own visible (expr.Flag true) ty → ⊥
+flag_num : {visible : Scope} {ty : Ty} → ty ≡ Num → HasType flagged flag_own visible (expr.Flag true) ty → ⊥
 flag_num e HasType.flag = let none : ⊥ = cc in absurd none
 
 kind_num : {n : ℕ} {f : TypedField} {ty : Ty} → n ≡ 0 → slice_get flag_own.fields n ≡ Some f → f.kind ≡ kind.Plain ty → ty ≡ Num
@@ -191,16 +191,16 @@ kind_num {n} {f} {ty} z e k = let at : slice_get flag_own.fields n ≡ Some fiel
   plain_is : {a b : Ty} → kind.Plain a ≡ kind.Plain b → b ≡ a
   plain_is h = cc
 
-plain_num : {visible : Visible} {ty : Ty} → AssigneeHas flagged flag_own visible (assignee.Plain 0) ty → ty ≡ Num
+plain_num : {visible : Scope} {ty : Ty} → AssigneeHas flagged flag_own visible (assignee.Plain 0) ty → ty ≡ Num
 plain_num (AssigneeHas.plain e k) = kind_num refl e k
 
-no_set : {visible behind : Visible} {next after : ℕ} {answer : Ty} → IsStmt flagged flag_own answer visible next (stmt.Set (assignee.Plain 0) (expr.Flag true)) behind after → ⊥
+no_set : {visible behind : Scope} {next after : ℕ} {answer : Ty} → IsStmt flagged flag_own answer visible next (stmt.Set (assignee.Plain 0) (expr.Flag true)) behind after → ⊥
 no_set (IsStmt.set to value) = flag_num (plain_num to) value
 
-no_stmts : {visible : Visible} {next after : ℕ} {answer : Ty} {rest : List TypedStmt} → AreStmts flagged flag_own answer visible next (stmt.Set (assignee.Plain 0) (expr.Flag true) ∷ rest) after → ⊥
+no_stmts : {visible : Scope} {next after : ℕ} {answer : Ty} {rest : List TypedStmt} → AreStmts flagged flag_own answer visible next (stmt.Set (assignee.Plain 0) (expr.Flag true) ∷ rest) after → ⊥
 no_stmts (AreStmts.stmts first rest) = no_set first
 
-no_block : {visible : Visible} {next after : ℕ} {answer : Ty} → IsBlock flagged flag_own answer visible next (body_with (expr.Flag true)) after → ⊥
+no_block : {visible : Scope} {next after : ℕ} {answer : Ty} → IsBlock flagged flag_own answer visible next (body_with (expr.Flag true)) after → ⊥
 no_block (IsBlock.block all) = no_stmts all
 
 pub flag_is_no_number : FlagIsNoNumber

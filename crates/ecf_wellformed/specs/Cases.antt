@@ -10,7 +10,7 @@ use Rattle.ecf_lang.specs.declared.typed.TypedExpr.{TypedExpr}
 use Rattle.ecf_lang.specs.declared.typed.TypedExpr.TheVariants as expr
 use Rattle.ecf_lang.specs.declared.typed.TypedStmt.TheVariants as stmt
 use Rattle.ecf_lang.specs.declared.typed.TypedBlock.{roll-TypedBlock}
-use Rattle.ecf_formed.specs.WellFormed.{WellFormed}
+use Rattle.ecf_wellformed.specs.WellFormed.{IsWellFormed}
 
 -- object Counter {
 --   num n;
@@ -38,9 +38,9 @@ counter step = record {
 abbrev pub one_more : TypedExpr
 one_more = expr.Sum (expr.Name (place.Plain 0)) ((Add, expr.Number 1) ∷ [])
 
-abbrev pub IsWellFormed : Type 0
-IsWellFormed = WellFormed (counter one_more)
+abbrev pub CounterIsWellFormed : Type 0
+CounterIsWellFormed = IsWellFormed (counter one_more)
 
 -- a flag is no number
 abbrev pub FlagIsNoNumber : Type 0
-FlagIsNoNumber = ¬ WellFormed (counter (expr.Flag true))
+FlagIsNoNumber = ¬ IsWellFormed (counter (expr.Flag true))

@@ -1,0 +1,2 @@
+pub mod CounterLaws
+pub mod NumberingLaws
