@@ -16,7 +16,7 @@ use Rattle.ecf_grammar.specs.Spellings.{LexemesBeginApart}
 use Rattle.ecf_grammar.specs.Readings.{PiecesHaveBytes}
 use Rattle.ecf_grammar.specs.Reading.{Piece, bytes_of, IsPiece, Begins}
 use Rattle.ecf_grammar.specs.Reading.Piece.{Blank, Comment, TokenText}
-use Rattle.ecf_lexer.specs.Front.{IsGap, IsFront, BeginsNothing}
+use Rattle.ecf_lexer.specs.Front.{IsGap, IsFront, BeginsNothing, BeginsNoPair}
 
 and_parts : (a b : Bool) → (a && b) ≡ true → (a ≡ true) × (b ≡ true)
 and_parts true b h = (refl, h)
@@ -247,14 +247,10 @@ sign_pair_front apart [] s some is = absurd (omega arith)
 sign_pair_front apart (a ∷ []) s some is = absurd (omega arith)
 sign_pair_front apart (a ∷ b ∷ rest) s some is = (a ∷ b ∷ [], tt, front_is (a ∷ b ∷ rest) (TokenText (kind.Sign s) (a ∷ b ∷ [])) 2 rest (sym is) refl refl (sign_pair_longest apart a b rest s is))
 
--- no sign of two bytes begins the text
-abbrev pub NoPair : List ℕ → Type 0
-NoPair text = (s : Sign) → 2 ≤ length text → sign_text s ≢ take 2 text
-
 begun_by : (text bytes behind : List ℕ) (s : Sign) (n : ℕ) → text ≡ bytes ++ behind → bytes ≡ sign_text s → length bytes ≡ n → sign_text s ≡ take n text
 begun_by text bytes behind s n whole is len = sym is ∙ sym (ap (take n) whole ∙ take_at bytes behind n len)
 
-no_pair_short : LexemesBeginApart → (text bytes behind : List ℕ) (s : Sign) → NoPair text → text ≡ bytes ++ behind → bytes ≡ sign_text s → length bytes ≤ 1
+no_pair_short : LexemesBeginApart → (text bytes behind : List ℕ) (s : Sign) → BeginsNoPair text → text ≡ bytes ++ behind → bytes ≡ sign_text s → length bytes ≤ 1
 no_pair_short apart text bytes behind s none whole is =
     elim (cases_lt 1 (length bytes)) [
       | inr le ↦ le
@@ -266,7 +262,7 @@ no_pair_short apart text bytes behind s none whole is =
 no_comment_begins : (text r behind : List ℕ) → starts_with nat_eq text (codes "//") ≡ false → text ≡ 47 ∷ 47 ∷ (r ++ behind) → ⊥
 no_comment_begins text r behind h e = let no = subst (λ t. starts_with nat_eq t (codes "//") ≡ false) e h in absurd cc
 
-sign_longest : LexemesBeginApart → (a : ℕ) (rest : List ℕ) (s : Sign) → sign_text s ≡ a ∷ [] → NoPair (a ∷ rest) → starts_with nat_eq (a ∷ rest) (codes "//") ≡ false
+sign_longest : LexemesBeginApart → (a : ℕ) (rest : List ℕ) (s : Sign) → sign_text s ≡ a ∷ [] → BeginsNoPair (a ∷ rest) → starts_with nat_eq (a ∷ rest) (codes "//") ≡ false
     → (other : Piece) (behind : List ℕ) → Begins (a ∷ rest) other behind → length (bytes_of other) ≤ 1
 sign_longest apart a rest s is none comment (Blank d) behind h = omega arith
 sign_longest apart a rest s is none comment (Comment r) behind h = absurd (no_comment_begins (a ∷ rest) r behind comment h.whole)
@@ -280,7 +276,7 @@ sign_longest apart a rest s is none comment (TokenText k bytes) behind h =
       | inr (inr sign) ↦ no_pair_short apart (a ∷ rest) bytes behind sign.0 none h.whole sign.1
     ]
 
-pub sign_front : LexemesBeginApart → (a : ℕ) (text : List ℕ) (s : Sign) → slice_get text 0 ≡ Some a → sign_text s ≡ a ∷ [] → NoPair text → starts_with nat_eq text (codes "//") ≡ false
+pub sign_front : LexemesBeginApart → (a : ℕ) (text : List ℕ) (s : Sign) → slice_get text 0 ≡ Some a → sign_text s ≡ a ∷ [] → BeginsNoPair text → starts_with nat_eq text (codes "//") ≡ false
     → (bytes : List ℕ) × Unit {0} × IsFront text (TokenText (kind.Sign s) bytes) 1
 sign_front apart a [] s first is none comment = absurd cc
 sign_front apart a (b ∷ rest) s first is none comment =
@@ -294,7 +290,7 @@ none_begins : PiecesHaveBytes → (p : Piece) (x : List ℕ) → Begins [] p x �
 none_begins have_bytes p x h = let some = have_bytes p h.spelled in omega (arith, ap length h.whole, length-append (bytes_of p) x)
 
 pub nothing_front : LexemesBeginApart → PiecesHaveBytes → (text : List ℕ) → starts_with nat_eq text (codes "//") ≡ false → is_blank (get_or text 0 0) ≡ false → is_name_start (get_or text 0 0) ≡ false
-    → is_ascii_digit (get_or text 0 0) ≡ false → NoPair text → ((s : Sign) → sign_text s ≢ take 1 text) → BeginsNothing text
+    → is_ascii_digit (get_or text 0 0) ≡ false → BeginsNoPair text → ((s : Sign) → sign_text s ≢ take 1 text) → BeginsNothing text
 nothing_front apart have_bytes [] comment blank name digit pair single p behind h = none_begins have_bytes p behind h
 nothing_front apart have_bytes (a ∷ rest) comment blank name digit pair single (Blank b) behind h =
     let whole = h.whole in

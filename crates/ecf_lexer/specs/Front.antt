@@ -1,6 +1,8 @@
 -- What is found at the front of a text.
-use Rattle.std.specs.Prelude.{◌≡◌, ℕ, ◌^◌, ◌≤◌, List, length, drop, ⊤}
+use Rattle.std.specs.Prelude.{◌≡◌, ◌≢◌, ℕ, ◌^◌, ◌≤◌, List, length, take, drop, ⊤}
 use Rattle.ecf_grammar.specs.declared.tokens.Kind.TheVariants as kind
+use Rattle.ecf_grammar.specs.declared.tokens.Sign.{Sign}
+use Rattle.ecf_grammar.specs.Spelling.{sign_text}
 use Rattle.ecf_grammar.specs.Reading.{Piece, bytes_of, Begins, BeginsLongest, BeginsToken, IsInRange}
 use Rattle.ecf_grammar.specs.Reading.Piece.{Blank, Comment, TokenText}
 use Rattle.ecf_lexer.specs.declared.front.Front.{Front}
@@ -26,3 +28,11 @@ IsFrontOf text WideNumber = (value : ℕ) × (2 ^ 128 ≤ value) × BeginsToken 
 -- no piece begins the text
 abbrev pub BeginsNothing : List ℕ → Type 0
 BeginsNothing text = (piece : Piece) (rest : List ℕ) → ¬ Begins text piece rest
+
+-- the first two bytes of the text spell this sign
+abbrev pub BeginsPair : List ℕ → Sign → Type 0
+BeginsPair text s = (2 ≤ length text) × (sign_text s ≡ take 2 text)
+
+-- they spell none
+abbrev pub BeginsNoPair : List ℕ → Type 0
+BeginsNoPair text = (s : Sign) → 2 ≤ length text → sign_text s ≢ take 2 text

@@ -5,7 +5,7 @@ ghost use Rattle.std.specs.List.{prefix_len, starts_with};
 ghost use Rattle.std.specs.Char.{is_ascii_digit};
 ghost use Rattle.ecf_grammar.specs.declared.tokens.Sign.{Sign};
 ghost use Rattle.ecf_grammar.specs.Spelling.{sign_text, is_name_start, is_name_byte, is_blank};
-ghost use Rattle.ecf_lexer.specs.Front.{IsFrontOf, BeginsNothing};
+ghost use Rattle.ecf_lexer.specs.Front.{IsFrontOf, BeginsNothing, BeginsPair, BeginsNoPair};
 
 use crate::spelling::{
     is_blank, is_name_byte, is_name_start, one_byte_sign, reserved_word, two_byte_sign,
@@ -111,7 +111,7 @@ fn sign(text: &[u8]) -> Option<Front>
 
 // The sign that the first two bytes spell.
 fn two_byte_front(text: &[u8]) -> Option<Sign>
-    ensures { MatchOption result ((s : Sign) → 2 ≤ length text.now → sign_text s ≢ take 2 text.now) (λ s. (2 ≤ length text.now) × (sign_text s ≡ take 2 text.now)) }
+    ensures { MatchOption result (BeginsNoPair text.now) (BeginsPair text.now) }
 {
     match text {
         [first, second, ..] => two_byte_sign(*first, *second),
