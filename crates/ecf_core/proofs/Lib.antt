@@ -1,0 +1,13 @@
+pub mod ListLaws
+pub mod RowLaws
+pub mod LedgerLaws
+pub mod ReachLaws
+pub mod CallLaws
+pub mod CountLaws
+pub mod GrowthLaws
+pub mod ExtensionLaws
+pub mod EventLaws
+pub mod BookLaws
+pub mod StoreLaws
+pub mod SeatLaws
+pub mod QueueLaws

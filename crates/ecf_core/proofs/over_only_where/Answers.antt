@@ -1,0 +1,5 @@
+use Rattle.ecf_core.proofs.GrowthLaws as proved
+use Rattle.ecf_core.proofs.over_only_where.Goals as goal
+
+pub returns : goal.returns
+returns c = proved.over_only_where

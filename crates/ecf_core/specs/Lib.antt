@@ -1,0 +1,10 @@
+pub mod Watches
+pub mod Ledgers
+pub mod Book
+pub mod Legal
+pub mod Counts
+pub mod Calls
+pub mod Drafted
+pub mod Core
+pub mod Seats
+pub mod Laws
