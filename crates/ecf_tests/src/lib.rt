@@ -2,4 +2,8 @@
 #![tactic(auto)]
 
 #[cfg(test)]
+mod runs;
+#[cfg(test)]
+mod small;
+#[cfg(test)]
 mod trees;

@@ -1,7 +1,7 @@
 //! Texts of contracts against the trees and faults that the grammar in docs/language.md gives them.
 
-use ecf_lang::tree::Tree;
 use ecf_lang::limits::MAX_CONTRACT_BYTES;
+use ecf_lang::tree::Tree;
 use ecf_lexer::lex;
 use ecf_parser::{SyntaxFault, parse};
 use std::alloc::{AllocError, Global};
