@@ -19,7 +19,7 @@ use Rattle.ecf_core.specs.Watches.{Watch}
 use Rattle.ecf_core.specs.Book.{Opening, Book, row_at, is_claimed, is_done, stales_under, next_seq, claimable_row, first_open_row, as_freed, with_placed, with_row, after_entry, after_entries}
 use Rattle.ecf_core.specs.Legal.{IsLegalChange, AreLegal, NoneClaimed}
 use Rattle.ecf_core.specs.Calls.{Answer, claim_answer, claim, first_changed_read, reply_only, reply_with, stale_answer, commit_answer, if_held, commit, commit_here, release, freeing_entries, reclaim, finishing_entries, finish, off_entries, take_watch}
-use Rattle.ecf_core.proofs.ListLaws.{false_not_true, found_in, Each_more}
+use Rattle.ecf_core.proofs.ListLaws.{false_not_true, found_in, Each_more, Each_both}
 use Rattle.ecf_core.proofs.RowLaws.{state, count_all, so_far}
 use Rattle.ecf_core.proofs.ReachLaws.{Sound, sound_from}
 
@@ -133,10 +133,6 @@ none_in [] h r = refl
 none_in (x ∷ rows) h zero = h.0
 none_in (x ∷ rows) h (suc r) = none_in rows h.1 r
 
-each_both : {X : Type 0} (P : X → Type 0) (xs ys : List X) → Each P xs → Each P ys → Each P (xs ++ ys)
-each_both P [] ys h k = k
-each_both P (x ∷ xs) ys h k = (h.0, each_both P xs ys h.1 k)
-
 done_unclaimed : (x : RowState) → is_done x ≡ true → is_claimed x ≡ false
 done_unclaimed (row.Free c) e = refl
 done_unclaimed (row.Claimed t c s) e = false_not_true refl e
@@ -165,7 +161,7 @@ ending_step o b front x rest at seq e l m d q open_ unclaimed = record {
 }
   where
     none : (r : ℕ) → is_claimed (row_at b r) ≡ false
-    none r = ap (λ rows. is_claimed (state rows r)) e ∙ none_in (front ++ x ∷ map as_freed rest) (each_both _ front (x ∷ map as_freed rest) (Each_weaker _ _ front done_unclaimed d) (unclaimed, freed_all rest)) r
+    none r = ap (λ rows. is_claimed (state rows r)) e ∙ none_in (front ++ x ∷ map as_freed rest) (Each_both _ front (x ∷ map as_freed rest) (Each_weaker _ _ front done_unclaimed d) (unclaimed, freed_all rest)) r
 
     here : row_at b at ≡ x
     here = ap (λ rows. state rows at) e ∙ get_or_at front x (map as_freed rest) (row.Free 0) at l

@@ -19,7 +19,7 @@ use Rattle.ecf_core.specs.Book.{Opening, Book, row_at, is_claimed, is_done, stal
 use Rattle.ecf_core.specs.Legal.{AreLegal}
 use Rattle.ecf_core.specs.Calls.{Answer, reply_only, reply_with, claim_answer, claim, first_changed_read, stale_answer, commit_answer, if_held, commit, commit_here, release, freeing_entries, reclaim, finishing_entries, finish}
 use Rattle.ecf_core.specs.Counts.{placed_rows, places_row}
-use Rattle.ecf_core.specs.Core.{RowReads, Hand, Nothing, Work, Draft, Judged, Here, Core, Act, act_beside_book, act_of_take, Happening, hand_of, hand_at, initial_core, on_claim, on_run, on_hand, on_take, on_judge, on_commit, on_here, on_release, on_lose, happening, core_after, placing_named, placings}
+use Rattle.ecf_core.specs.Core.{RowReads, Hand, Nothing, Work, Draft, Judged, Here, Core, Act, act_beside_book, act_of_take, Happening, hand_of, hand_at, initial_core, on_claim, on_run, on_hand, on_take, on_judge, on_commit, on_here, on_release, on_lose, happening, core_after, entries_added, placing_named, placings}
 use Rattle.ecf_core.specs.Laws.{open_rows, EveryListOfEvents}
 use Rattle.ecf_core.proofs.RowLaws.{state}
 use Rattle.ecf_core.proofs.GrowthLaws.{journal_grows}
@@ -188,29 +188,28 @@ range_append a (suc n) m =
     ap (λ l. a ∷ l) (ap (λ x. range_with_len (a + 1) n ++ range_with_len x m) (let e : a + suc n ≡ (a + 1) + n = omega arith in e) ∙ range_append (a + 1) n m)
     ∙ ap (range_with_len a) (let e : suc (n + m) ≡ suc n + m = omega arith in e)
 
--- lists of events
-pub record Went (o : Opening) (c : Core) (events : List Event) : Type 0 where
-  pub entries : List LogEntry
-  pub legal : AreLegal o c.book entries
-  pub book : (core_after o c events).book ≡ after_entries o c.book entries
+-- what a list of events comes to
+pub record Leads (o : Opening) (c : Core) (events : List Event) : Type 0 where
+  pub legal : AreLegal o c.book (entries_added o c events)
+  pub book : (core_after o c events).book ≡ after_entries o c.book (entries_added o c events)
   pub journal : (core_after o c events).book.journal ≡ c.book.journal ++ map (λ p. p.0) (placings o c events)
   pub numbers : map (λ p. p.1) (placings o c events) ≡ range_with_len (next_seq c.book) (length (placings o c events))
 
-pub went : (o : Opening) (c : Core) (events : List Event) → Went o c events
-unfolding core_after placings after_entries
-went o c [] = record { entries = []; legal = tt; book = refl; journal = sym (append-nil c.book.journal); numbers = refl }
-went o c (e ∷ events) =
+pub leads : (o : Opening) (c : Core) (events : List Event) → Leads o c events
+unfolding core_after entries_added placings after_entries
+leads o c [] = record { legal = tt; book = refl; journal = sym (append-nil c.book.journal); numbers = refl }
+leads o c (e ∷ events) =
     let h = happening o c e in
     let s = stepped o c e in
-    let w = went o h.core events in
+    let w = leads o h.core events in
+    let more = entries_added o h.core events in
     let names = placing_named (hand_at c e) h.reply in
     let rest = placings o h.core events in
     let grown : h.core.book.journal ≡ c.book.journal ++ map (λ p. p.0) names = ap (λ (b : Book). b.journal) s.book ∙ journal_grows o c.book h.entries ∙ ap (λ l. c.book.journal ++ l) s.says.rows in
     let next : next_seq h.core.book ≡ next_seq c.book + length names = ap (λ l. suc (length l)) grown ∙ omega (arith, length-append c.book.journal (map (λ p. p.0) names), length-map names (λ p. p.0)) in
     record {
-      entries = h.entries ++ w.entries;
-      legal = legal_more o c.book h.entries w.entries s.says.legal (subst (λ b. AreLegal o b w.entries) s.book w.legal);
-      book = w.book ∙ ap (λ b. after_entries o b w.entries) s.book ∙ sym (after_more o c.book h.entries w.entries);
+      legal = legal_more o c.book h.entries more s.says.legal (subst (λ b. AreLegal o b more) s.book w.legal);
+      book = w.book ∙ ap (λ b. after_entries o b more) s.book ∙ sym (after_more o c.book h.entries more);
       journal = w.journal ∙ ap (λ l. l ++ map (λ p. p.0) rest) grown ∙ append_assoc c.book.journal (map (λ p. p.0) names) (map (λ p. p.0) rest) ∙ ap (λ l. c.book.journal ++ l) (sym (map-append (λ p. p.0) names rest));
       numbers = map-append (λ p. p.1) names rest ∙ ap (λ l. l ++ map (λ p. p.1) rest) s.says.numbers ∙ ap (λ l. range_with_len (next_seq c.book) (length names) ++ l) (w.numbers ∙ ap (λ n. range_with_len n (length rest)) next) ∙ range_append (next_seq c.book) (length names) (length rest) ∙ ap (range_with_len (next_seq c.book)) (sym (length-append names rest));
     }
@@ -246,10 +245,11 @@ finish_places o b m =
 pub every_list_of_events : EveryListOfEvents
 every_list_of_events o es events h =
     let b = after o es in
-    let w = went o (initial_core b) events in
-    let s : Sound o (core_after o (initial_core b) events).book = subst (Sound o) (sym w.book) (sound_from o b (sound o es h) w.entries w.legal) in
+    let w = leads o (initial_core b) events in
+    let s : Sound o (core_after o (initial_core b) events).book = subst (Sound o) (sym w.book) (sound_from o b (sound o es h) (entries_added o (initial_core b) events) w.legal) in
     record {
-      journal = finish_places o (core_after o (initial_core b) events).book s.agree.as_many ∙ ap (λ l. l ++ open_rows o (core_after o (initial_core b) events).book) w.journal;
+      legal = w.legal;
+      leads = w.book;
       numbers = w.numbers;
-      legal = (w.entries, w.legal, w.book);
+      journal = finish_places o (core_after o (initial_core b) events).book s.agree.as_many ∙ ap (λ l. l ++ open_rows o (core_after o (initial_core b) events).book) w.journal;
     }

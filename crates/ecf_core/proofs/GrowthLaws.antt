@@ -1,16 +1,17 @@
 -- Claims that find nothing, commits that find nothing changed, and journals that grow.
 use Rattle.std.proofs.Common.{◌≡◌, ℕ, suc, zero, ◌+◌, ◌<◌, ◌≤◌, Bool, true, false, cond, not, ◌&&◌, ◌||◌, ◌==◌, List, [], ◌∷◌, ◌++◌, length, map, Option, Some, None, inl, inr, ◌⊎◌, refl, sym, ap, ◌∙◌, arith}
-use Rattle.std.specs.Prelude.{filter, nat_lt}
+use Rattle.std.specs.Prelude.{filter, slice_get}
 use Rattle.std.specs.List.{list_all, list_any, range_with_len}
 use Rattle.std.specs.Option.{option_map_or}
 use Rattle.std.proofs.lemmas.Bool.{eqb-true, eq-eqb, ltb-false}
 use Rattle.std.proofs.lemmas.List.{append-nil, append_assoc}
+use Rattle.ecf_lang.specs.declared.limits.TheConstants.{MAX_CLAIMS}
 use Rattle.ecf_lang.specs.declared.tx.Tx.{Tx}
 use Rattle.ecf_lang.specs.declared.receipt.Receipt.{Receipt}
 use Rattle.ecf_lang.specs.declared.receipt.Receipt.TheVariants as receipt
 use Rattle.ecf_lang.specs.Meaning.{run}
 use Rattle.ecf_lang.specs.Store.{Store, Cells, read}
-use Rattle.ecf_verdicts.specs.Receipts.{next_store}
+use Rattle.ecf_verdicts.specs.Receipts.{next_store, receipt_on}
 use Rattle.ecf_verdicts.specs.SerialLaws.{IsCommitted}
 use Rattle.ecf_verdicts.specs.Journals.{places, submitter_at}
 use Rattle.ecf_verdicts.specs.ListLemmas.{Each, In, Each_from_all, In_filter}
@@ -21,11 +22,12 @@ use Rattle.ecf_core.specs.declared.book.LogWhat.{LogWhat}
 use Rattle.ecf_core.specs.declared.book.LogWhat.TheVariants as log
 use Rattle.ecf_core.specs.declared.event.Reply.{Reply}
 use Rattle.ecf_core.specs.declared.event.Reply.TheVariants as reply
-use Rattle.ecf_core.specs.Ledgers.{Ledger, with_result, ledger_after}
+use Rattle.ecf_core.specs.Ledgers.{Ledger, after_votes, with_result, ledger_after}
+use Rattle.ecf_core.specs.Watches.{Watches, show_all}
 use Rattle.ecf_core.specs.Book.{Opening, Book, row_at, is_claimed, is_done, has_claim_left, may_be_claimed, claimable_row, earlier_rows, after_change, after_entry, after_entries}
 use Rattle.ecf_core.specs.Calls.{claim_answer, claim, first_changed_read, commit_answer, if_held, commit}
 use Rattle.ecf_core.specs.Counts.{places_row, placed_rows}
-use Rattle.ecf_core.specs.Laws.{JournalGrows, OverOnlyWhere, CommitIsRight}
+use Rattle.ecf_core.specs.Laws.{JournalGrows, ReceiptsGrow, CommitIsRight}
 use Rattle.ecf_core.proofs.ListLaws.{false_not_true, found_none, in_range, range_high}
 use Rattle.ecf_core.proofs.RowLaws.{state}
 
@@ -60,6 +62,53 @@ journal_grows o b (e ∷ es) =
     front true = refl
     front false = refl
 
+-- receipts are only added
+Grown : Ledger → Ledger → Type 0
+Grown l m = (more : List Receipt) × (m.receipts ≡ l.receipts ++ more)
+
+voted_grows : (v : Option ℕ) (ws : Watches) (r : Receipt) (fuel : ℕ) (s : Store) (l : Ledger) → Grown l (after_votes v ws r fuel s l)
+unfolding Grown
+voted_grows None ws r fuel s l = (r ∷ [], refl)
+voted_grows (Some k) ws r fuel s l = (receipt.Barred k fuel ∷ [], refl)
+
+result_grows : (tx : Tx) (r : Receipt) (writes : Cells) (s : Store) (l : Ledger) → Grown l (with_result tx r writes s l)
+unfolding Grown
+result_grows tx (receipt.Committed answer fuel orders) writes s l =
+    let v = show_all (record { tx = tx; answer = answer; fuel = fuel; writes = writes }) 0 l.watches in
+    voted_grows v.no v.watches (receipt.Committed answer fuel orders) fuel s l
+result_grows tx (receipt.Reverted cause fuel) writes s l = (receipt.Reverted cause fuel ∷ [], refl)
+result_grows tx (receipt.OutOfFuel fuel) writes s l = (receipt.OutOfFuel fuel ∷ [], refl)
+result_grows tx (receipt.Vetoed object at cycle fuel) writes s l = (receipt.Vetoed object at cycle fuel ∷ [], refl)
+result_grows tx (receipt.Barred watch fuel) writes s l = (receipt.Barred watch fuel ∷ [], refl)
+
+stays : (l : Ledger) → Grown l l
+unfolding Grown
+stays l = ([], sym (append-nil l.receipts))
+
+placed_grows : (o : Opening) (l : Ledger) (x : Option Tx) → Grown l (option_map_or (λ tx. ledger_after o.typed tx l) x l)
+unfolding ledger_after
+placed_grows o l None = stays l
+placed_grows o l (Some tx) = result_grows tx (receipt_on o.typed l.store tx) (run o.typed l.store tx).writes (next_store o.typed l.store tx) l
+
+change_grows : (o : Opening) (b : Book) (r ticket : ℕ) (what : LogWhat) → Grown b.ledger (after_change o b r ticket what).ledger
+unfolding Grown
+change_grows o b r ticket log.Claimed = stays b.ledger
+change_grows o b r ticket (log.Placed seq) = placed_grows o b.ledger (slice_get o.txs r)
+change_grows o b r ticket (log.Stale cell was now) = stays b.ledger
+change_grows o b r ticket (log.LastStale cell was now) = stays b.ledger
+change_grows o b r ticket (log.Here seq) = placed_grows o b.ledger (slice_get o.txs r)
+change_grows o b r ticket log.Freed = stays b.ledger
+change_grows o b r ticket (log.Finished seq) = placed_grows o b.ledger (slice_get o.txs r)
+change_grows o b r ticket (log.Off k) = ([], sym (append-nil b.ledger.receipts))
+
+pub receipts_grow : ReceiptsGrow
+unfolding after_entries Grown
+receipts_grow o b [] = ([], sym (append-nil b.ledger.receipts))
+receipts_grow o b (e ∷ es) =
+    let first = change_grows o b e.row e.ticket e.what in
+    let deep = receipts_grow o (after_entry o b e) es in
+    (first.0 ++ deep.0, deep.1 ∙ ap (λ l. l ++ deep.0) first.1 ∙ append_assoc b.ledger.receipts first.0 deep.0)
+
 -- a claim that answers Over
 over_none : (b : Book) (x : Option ℕ) → (claim_answer b x).reply ≡ reply.Over → (x ≡ None) × (list_any is_claimed b.rows ≡ false)
 over_none b None e = (refl, go (list_any is_claimed b.rows) e)
@@ -77,7 +126,7 @@ over_none b (Some r) e = false_not_true refl (ap IsOver e)
     IsOver reply.Over = true
     IsOver other = false
 
-any_none : (rows : List RowState) → list_any is_claimed rows ≡ false → (r : ℕ) → is_claimed (state rows r) ≡ false
+pub any_none : (rows : List RowState) → list_any is_claimed rows ≡ false → (r : ℕ) → is_claimed (state rows r) ≡ false
 any_none [] e r = refl
 any_none (x ∷ rows) e zero = or_first (is_claimed x) (list_any is_claimed rows) e
   where
@@ -100,19 +149,16 @@ all_or_one p (x ∷ xs) = go (p x) refl (all_or_one p xs)
     go true e (inr h) = inr (h.0, inr h.1, h.2)
     go false e h = inr (x, inl refl, e)
 
-Waits : Opening → Book → ℕ → Type 0
-Waits o b r = (q : ℕ) × (q ≤ r) × (submitter_at o.txs q ≡ submitter_at o.txs r) × ((c : ℕ) × (row_at b q ≡ row.Free c) × (4 ≤ c))
+-- the row, or an earlier one of its submitter, is Free and was claimed often enough
+abbrev pub Waits : Opening → Book → ℕ → Type 0
+Waits o b r = (q : ℕ) × (q ≤ r) × (submitter_at o.txs q ≡ submitter_at o.txs r) × ((c : ℕ) × (row_at b q ≡ row.Free c) × (MAX_CLAIMS ≤ c))
 
-spent : (b : Book) (r : ℕ) (x : RowState) → row_at b r ≡ x → is_claimed x ≡ false → is_done x ≡ false → has_claim_left x ≡ false → (c : ℕ) × (row_at b r ≡ row.Free c) × (4 ≤ c)
-spent b r (row.Free c) is e f g = (c, is, least_4 (nat_lt c 4) refl g)
-  where
-    least_4 : (t : Bool) → nat_lt c 4 ≡ t → nat_lt c 4 ≡ false → 4 ≤ c
-    least_4 t s h = ltb-false c 4 h
+spent : (b : Book) (r : ℕ) (x : RowState) → row_at b r ≡ x → is_claimed x ≡ false → is_done x ≡ false → has_claim_left x ≡ false → (c : ℕ) × (row_at b r ≡ row.Free c) × (MAX_CLAIMS ≤ c)
+spent b r (row.Free c) is e f g = (c, is, ltb-false c MAX_CLAIMS g)
 spent b r (row.Claimed t c s) is e f g = false_not_true e refl
 spent b r (row.Done n) is e f g = false_not_true f refl
 
 waits : (o : Opening) (b : Book) → claimable_row o b ≡ None → list_any is_claimed b.rows ≡ false → (n r : ℕ) → r < n → r < length o.txs → is_done (row_at b r) ≡ false → Waits o b r
-unfolding Waits
 waits o b none idle zero r l inside open_ = absurd (omega arith)
 waits o b none idle (suc n) r l inside open_ =
     elim (all_or_one (λ q. is_done (row_at b q)) (earlier_rows o.txs r)) [
@@ -128,14 +174,15 @@ waits o b none idle (suc n) r l inside open_ =
     first_not true c e f = false_not_true f e
     first_not false c e f = refl
 
-pub over_only_where : OverOnlyWhere
-unfolding claim Waits
-over_only_where o b e r inside open_ =
+-- a row that isn't Done, when a claim answers Over
+pub waiting_row : (o : Opening) (b : Book) → (claim o b).reply ≡ reply.Over → (r : ℕ) → r < length o.txs → is_done (row_at b r) ≡ false → Waits o b r
+unfolding claim
+waiting_row o b e r inside open_ =
     let n = over_none b (claimable_row o b) e in
     waits o b n.0 n.1 (suc r) r (omega arith) inside open_
 
 -- a commit whose reads agree
-nothing_changed : (reads : Cells) (store : Store) → Each (λ pair. read store pair.0 ≡ pair.1) reads → first_changed_read reads store ≡ None
+pub nothing_changed : (reads : Cells) (store : Store) → Each (λ pair. read store pair.0 ≡ pair.1) reads → first_changed_read reads store ≡ None
 nothing_changed [] store h = refl
 nothing_changed (pair ∷ reads) store h = ap (λ c. cond (not c) (Some pair) (first_changed_read reads store)) (eq-eqb _ _ h.0) ∙ nothing_changed reads store h.1
 

@@ -11,3 +11,6 @@ pub mod BookLaws
 pub mod StoreLaws
 pub mod SeatLaws
 pub mod QueueLaws
+pub mod ReplyLaws
+pub mod RefusalLaws
+pub mod WatchLaws

@@ -63,6 +63,10 @@ pub Each_more : {X : Type 0} (P : X → Type 0) (xs : List X) (y : X) → Each P
 Each_more P [] y h p = (p, tt)
 Each_more P (x ∷ xs) y h p = (h.0, Each_more P xs y h.1 p)
 
+pub Each_both : {X : Type 0} (P : X → Type 0) (xs ys : List X) → Each P xs → Each P ys → Each P (xs ++ ys)
+Each_both P [] ys h k = k
+Each_both P (x ∷ xs) ys h k = (h.0, Each_both P xs ys h.1 k)
+
 pub rises_right : (xs ys : List ℕ) → Rising (xs ++ ys) → Rising ys
 rises_right [] ys r = r
 rises_right (x ∷ xs) ys r = rises_right xs ys r.1

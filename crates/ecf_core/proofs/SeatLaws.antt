@@ -1,20 +1,22 @@
 -- Seats.
-use Rattle.std.proofs.Common.{◌≡◌, ◌≢◌, ℕ, suc, ◌<◌, ◌≤◌, ◌==◌, Bool, true, false, cond, List, [], ◌∷◌, ◌++◌, length, Option, Some, None, get_or, inl, inr, sym, ap, ◌∙◌, subst, arith}
-use Rattle.std.specs.Prelude.{slice_get, nat_lt, AllPairs}
+use Rattle.std.proofs.Common.{◌≡◌, ◌≢◌, ℕ, suc, ◌<◌, ◌≤◌, ◌==◌, ◌+◌, Bool, true, false, cond, List, [], ◌∷◌, ◌++◌, length, Option, Some, None, get_or, inl, inr, refl, sym, ap, ◌∙◌, subst, arith}
+use Rattle.std.specs.Prelude.{slice_get, nat_lt, nat_le, All, AllPairs}
 use Rattle.std.specs.List.{enumerate_from}
-use Rattle.std.proofs.lemmas.Bool.{cases_eq}
+use Rattle.std.proofs.lemmas.Bool.{cases_eq, leb-true, leb-false}
 use Rattle.std.proofs.lemmas.List.{append-nil, length_push, length-append, get_or_push, get_or_append_left}
+use Rattle.std.proofs.lemmas.List.Elements.{All-append}
 use Rattle.std.proofs.lemmas.Option.{slice_get_within}
 use Rattle.ecf_lang.specs.declared.cell.Cell.{Cell}
 use Rattle.ecf_lang.specs.declared.limits.TheConstants.{MAX_STALES}
 use Rattle.ecf_lang.specs.Store.{read}
+use Rattle.ecf_verdicts.specs.ListLemmas.{Each, Each_at, Each_from, Each_from_all, Each_weaker, All_from_Each, Pairs, Pairs_at, Pairs_from_at}
 use Rattle.ecf_core.specs.declared.book.LogEntry.{LogEntry}
 use Rattle.ecf_core.specs.declared.book.LogWhat.TheVariants as log
 use Rattle.ecf_core.specs.declared.event.Reply.TheVariants as reply
 use Rattle.ecf_core.specs.Book.{Book, row_at, stales_under, claimable_row, after}
 use Rattle.ecf_core.specs.Calls.{Answer, claim_answer, claim, first_changed_read, reply_only, reply_with, stale_answer, commit_answer, if_held, commit, commit_here, release}
-use Rattle.ecf_core.specs.Seats.{IsSeat, EachCallAddsOne, CallKeepsSeat}
-use Rattle.ecf_core.proofs.ListLaws.{get_left, get_last}
+use Rattle.ecf_core.specs.Seats.{Seat, IsSeat, AreApart, BeginsWith, EachCallAddsOne, CallKeepsSeat, CallKeepsApart, SplitKeepsSeats, ApartBothWays, JoinKeepsApart, JoinKeepsSeats}
+use Rattle.ecf_core.proofs.ListLaws.{get_left, get_last, Each_both}
 
 offered_one : (b : Book) (x : Option ℕ) → length (claim_answer b x).entries ≤ 1
 offered_one b None = omega arith
@@ -83,3 +85,92 @@ call_keeps_seat o call reply before later one h s =
     let seen : later.seen ≡ (before.seen ++ more.0) ++ es = h.seen ∙ ap (λ l. l ++ es) more.1 in
     let mine : later.mine ≡ before.mine ++ enumerate_from (length (before.seen ++ more.0)) es = h.mine ∙ ap (λ l. before.mine ++ enumerate_from (length l) es) more.1 in
     subst IsSeat (λ i. record { seen = sym seen i; mine = sym mine i }) (stays before.seen more.0 before.mine es (one (after o h.history)) s)
+
+-- seats that are apart
+
+places_from : (n : ℕ) (es : List LogEntry) → Each (λ m. n ≤ m.0) (enumerate_from n es)
+places_from n [] = tt
+places_from n (e ∷ es) = (omega arith, Each_weaker (λ m. n + 1 ≤ m.0) (λ m. n ≤ m.0) (enumerate_from (n + 1) es) (λ m l. omega (arith, l)) (places_from (n + 1) es))
+
+low_places : (seat : Seat) (history : List LogEntry) → IsSeat seat → BeginsWith history seat.seen → Each (λ m. m.0 < length history) seat.mine
+low_places seat history s more =
+    Each_from (λ m. m.0 < length history) seat.mine (λ m i. (let at = Each_at (λ m. slice_get seat.seen m.0 ≡ Some m.1) seat.mine m (Each_from_all (λ m. slice_get seat.seen m.0 ≡ Some m.1) seat.mine s.own) i in
+    omega (arith, slice_get_within seat.seen m.0 m.1 at, ap (λ l. length l) more.1, length-append seat.seen more.0)))
+
+pub call_keeps_apart : CallKeepsApart
+call_keeps_apart o call reply before later other called seat more apart =
+    let n = length called.history in
+    let es = (call (after o called.history)).entries in
+    let low = low_places other called.history seat more in
+    let new : All (λ m. All (λ k. m.0 ≢ k.0) other.mine) (enumerate_from n es) =
+    All_from_Each (λ m. All (λ k. m.0 ≢ k.0) other.mine) (enumerate_from n es)
+    (Each_weaker (λ m. n ≤ m.0) (λ m. All (λ k. m.0 ≢ k.0) other.mine) (enumerate_from n es) (λ m l. All_from_Each (λ k. m.0 ≢ k.0) other.mine (Each_weaker (λ k. k.0 < n) (λ k. m.0 ≢ k.0) other.mine (λ k h e. omega (arith, l, h, e)) low)) (places_from n es)) in
+    subst (λ mine. All (λ m. All (λ k. m.0 ≢ k.0) other.mine) mine) (sym called.mine) (All-append (λ m. All (λ k. m.0 ≢ k.0) other.mine) before.mine (enumerate_from n es) apart new)
+
+pub split_keeps_seats : SplitKeepsSeats
+split_keeps_seats seat s = (s, record { own = λ k d l. absurd (omega (arith, l)); differ = λ i j d l m. absurd (omega (arith, m)) }, λ k d l j e m. absurd (omega (arith, m)))
+
+pub apart_both_ways : ApartBothWays
+apart_both_ways a b h = λ j e m k d l f. h k d l j e m (sym f)
+
+pub join_keeps_apart : JoinKeepsApart
+join_keeps_apart a b other h k = All-append (λ m. All (λ n. m.0 ≢ n.0) other.mine) a.mine b.mine h k
+
+-- seats joined
+
+no_rest : (rest : List LogEntry) → length rest ≡ 0 → rest ≡ []
+no_rest [] e = refl
+no_rest (x ∷ rest) e = absurd (omega (arith, e))
+
+abbrev longer : List LogEntry → List LogEntry → List LogEntry
+longer a b = cond (nat_le (length a) (length b)) b a
+
+longer_first : (a b : List LogEntry) → BeginsWith a b → longer a b ≡ a
+longer_first a b more = go (nat_le (length a) (length b)) refl
+  where
+    go : (c : Bool) → nat_le (length a) (length b) ≡ c → cond c b a ≡ a
+    go true e =
+        let none = no_rest more.0 (omega (arith, leb-true (length a) (length b) e, ap (λ l. length l) more.1, length-append b more.0)) in
+        sym (more.1 ∙ ap (λ l. b ++ l) none ∙ append-nil b)
+    go false e = refl
+
+longer_second : (a b : List LogEntry) → BeginsWith b a → longer a b ≡ b
+longer_second a b more = go (nat_le (length a) (length b)) refl
+  where
+    go : (c : Bool) → nat_le (length a) (length b) ≡ c → cond c b a ≡ b
+    go true e = refl
+    go false e = absurd (omega (arith, leb-false (length a) (length b) e, ap (λ l. length l) more.1, length-append a more.0))
+
+pairs_both : {X : Type 0} (R : X → X → Type 0) (xs ys : List X) → Pairs R xs → Pairs R ys → Each (λ x. Each (R x) ys) xs → Pairs R (xs ++ ys)
+pairs_both R [] ys h k c = k
+pairs_both R (x ∷ xs) ys h k c = (Each_both (R x) xs ys h.0 c.0, pairs_both R xs ys h.1 k c.1)
+
+own_within : (whole first : List LogEntry) (mine : List (ℕ × LogEntry)) → BeginsWith whole first → All (λ m. slice_get first m.0 ≡ Some m.1) mine → All (λ m. slice_get whole m.0 ≡ Some m.1) mine
+own_within whole first mine more own = λ k d l. ap (λ w. slice_get w (get_or mine k d).0) more.1 ∙ get_left first more.0 (get_or mine k d).0 (get_or mine k d).1 (own k d l)
+
+joined : (a b : Seat) (seen : List LogEntry) → IsSeat a → IsSeat b → AreApart a b → BeginsWith seen a.seen → BeginsWith seen b.seen → IsSeat (record { seen = seen; mine = a.mine ++ b.mine })
+joined a b seen s t apart first second = record {
+  own = All-append (λ m. slice_get seen m.0 ≡ Some m.1) a.mine b.mine (own_within seen a.seen a.mine first s.own) (own_within seen b.seen b.mine second t.own);
+  differ = λ i j d l m. Pairs_at (λ m n. m.0 ≢ n.0) (a.mine ++ b.mine) both i j d l m;
+}
+  where
+    cross : Each (λ m. Each (λ n. m.0 ≢ n.0) b.mine) a.mine
+    cross = Each_weaker (λ m. All (λ n. m.0 ≢ n.0) b.mine) (λ m. Each (λ n. m.0 ≢ n.0) b.mine) a.mine (λ m h. Each_from_all (λ n. m.0 ≢ n.0) b.mine h) (Each_from_all (λ m. All (λ n. m.0 ≢ n.0) b.mine) a.mine apart)
+
+    both : Pairs (λ m n. m.0 ≢ n.0) (a.mine ++ b.mine)
+    both = pairs_both (λ m n. m.0 ≢ n.0) a.mine b.mine (Pairs_from_at (λ m n. m.0 ≢ n.0) a.mine s.differ) (Pairs_from_at (λ m n. m.0 ≢ n.0) b.mine t.differ) cross
+
+all_of : (l : List LogEntry) → BeginsWith l l
+all_of l = ([], sym (append-nil l))
+
+pub join_keeps_seats : JoinKeepsSeats
+join_keeps_seats a b s t apart (inl more) =
+    let is : longer a.seen b.seen ≡ a.seen = longer_first a.seen b.seen more in
+    let first : BeginsWith (longer a.seen b.seen) a.seen = subst (λ l. BeginsWith l a.seen) (sym is) (all_of a.seen) in
+    let second : BeginsWith (longer a.seen b.seen) b.seen = subst (λ l. BeginsWith l b.seen) (sym is) more in
+    record { seat = joined a b (longer a.seen b.seen) s t apart first second; mine = refl; first = first; second = second; no_more = inl is }
+join_keeps_seats a b s t apart (inr more) =
+    let is : longer a.seen b.seen ≡ b.seen = longer_second a.seen b.seen more in
+    let first : BeginsWith (longer a.seen b.seen) a.seen = subst (λ l. BeginsWith l a.seen) (sym is) more in
+    let second : BeginsWith (longer a.seen b.seen) b.seen = subst (λ l. BeginsWith l b.seen) (sym is) (all_of b.seen) in
+    record { seat = joined a b (longer a.seen b.seen) s t apart first second; mine = refl; first = first; second = second; no_more = inr is }

@@ -1,5 +1,5 @@
 -- The core: actors with their hands, and a queue, around one book. Each event has one reply, and one state after it.
-use Rattle.std.specs.Prelude.{ℕ, suc, nat_lt, if◌then◌else◌, List, [], ◌∷◌, ◌++◌, length, replicate, slice_set, slice_get, slice_index_or, Option, Some, None}
+use Rattle.std.specs.Prelude.{ℕ, suc, nat_lt, Bool, true, false, not, if◌then◌else◌, List, [], ◌∷◌, ◌++◌, length, replicate, slice_set, slice_get, slice_index_or, Option, Some, None}
 use Rattle.std.specs.Option.{option_map_or}
 use Rattle.ecf_lang.specs.declared.limits.TheConstants.{MAX_ACTORS, MAX_QUEUED}
 use Rattle.ecf_lang.specs.declared.tx.Tx.{Tx}
@@ -171,6 +171,11 @@ unfoldable pub replies : Opening → Core → List Event → List Reply
 replies o c [] = []
 replies o c (e ∷ es) = (happening o c e).reply ∷ replies o (happening o c e).core es
 
+-- the entries that events add, in order
+unfoldable pub entries_added : Opening → Core → List Event → List LogEntry
+entries_added o c [] = []
+entries_added o c (e ∷ es) = (happening o c e).entries ++ entries_added o (happening o c e).core es
+
 -- the core after events
 unfoldable pub core_after : Opening → Core → List Event → Core
 core_after o c [] = c
@@ -187,6 +192,40 @@ row_in_hand (Work r ticket store) = r
 row_in_hand (Draft d) = d.row
 row_in_hand (Judged d) = d.row
 row_in_hand (Here r ticket) = r
+
+-- what a hand holds
+abbrev pub holds_nothing : Hand → Bool
+holds_nothing Nothing = true
+holds_nothing other = false
+
+abbrev pub holds_work : Hand → Bool
+holds_work (Work r ticket store) = true
+holds_work other = false
+
+abbrev pub holds_draft : Hand → Bool
+holds_draft (Draft d) = true
+holds_draft other = false
+
+abbrev pub holds_judged : Hand → Bool
+holds_judged (Judged d) = true
+holds_judged other = false
+
+abbrev pub holds_here : Hand → Bool
+holds_here (Here r ticket) = true
+holds_here other = false
+
+-- whether an event applies to what its actor holds
+abbrev pub applies : Event → Hand → Bool
+applies (event.Claim a) hand = holds_nothing hand
+applies (event.Run a) hand = holds_work hand
+applies (event.Hand a) hand = holds_draft hand
+applies (event.Take a) hand = holds_nothing hand
+applies (event.Judge a) hand = holds_draft hand
+applies (event.Commit a) hand = holds_judged hand
+applies (event.Here a) hand = holds_here hand
+applies (event.Release a) hand = not (holds_nothing hand)
+applies (event.Lose a) hand = not (holds_nothing hand)
+applies event.Reclaim hand = true
 
 -- whose event it is
 abbrev pub actor_of : Event → Option ℕ

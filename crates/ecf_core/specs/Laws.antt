@@ -2,6 +2,7 @@
 use Rattle.std.specs.Prelude.{◌≡◌, ◌↔◌, ◌≤◌, ◌<◌, ℕ, suc, true, false, not, List, [], ◌∷◌, ◌++◌, length, map, filter, slice_get, Some, All}
 use Rattle.std.specs.List.{range_with_len, flat_map}
 use Rattle.ecf_lang.specs.declared.limits.TheConstants.{MAX_CLAIMS, MAX_STALES, MAX_QUEUED}
+use Rattle.ecf_lang.specs.declared.receipt.Receipt.{Receipt}
 use Rattle.ecf_lang.specs.declared.tx.Tx.{Tx}
 use Rattle.ecf_lang.specs.declared.typed.Typed.{Typed}
 use Rattle.ecf_lang.specs.Store.{Cells, IsStore, with_writes}
@@ -19,7 +20,7 @@ use Rattle.ecf_core.specs.Legal.{AreLegal, IsHistory, IsHeld, NoneClaimed}
 use Rattle.ecf_core.specs.Calls.{claim, commit, commit_here, release, reclaim, finish, take_watch, with_transactions, extend, book_after}
 use Rattle.ecf_core.specs.Counts.{entries_of, most_entries, stales_of, given_tickets, placed_rows}
 use Rattle.ecf_core.specs.Drafted.{Judgement, IsJudged}
-use Rattle.ecf_core.specs.Core.{initial_core, core_after, placings, schedule_book, Core, RowReads, act_of_hand}
+use Rattle.ecf_core.specs.Core.{initial_core, core_after, entries_added, placings, schedule_book, Core, RowReads, act_of_hand}
 
 -- with no watch, the serial run under watches is the serial run
 abbrev pub NoWatchIsSerial : Type 0
@@ -40,10 +41,11 @@ LedgerIsSerial = (o : Opening) (es : List LogEntry) → IsHistory o es →
 abbrev pub StoreIsStore : Type 0
 StoreIsStore = (o : Opening) (es : List LogEntry) → IsStore (after o es).ledger.store
 
--- a row is Done exactly at its number of the journal
+-- each row of the journal is Done, a row that is Done stands there at its number, and there is a receipt for each
 pub record RowAgrees (b : Book) : Type 0 where
   pub listed : All (λ r. is_done (row_at b r) ≡ true) b.journal
   pub at_number : (r n : ℕ) → row_at b r ≡ row.Done n → (m : ℕ) × (n ≡ suc m) × (slice_get b.journal m ≡ Some r)
+  pub receipts : length b.ledger.receipts ≡ length b.journal
 
 -- rows, journal and entries agree
 abbrev pub RowsAgree : Type 0
@@ -94,16 +96,24 @@ FinishEnds = (o : Opening) (es : List LogEntry) → IsHistory o es → IsFinishe
 abbrev pub JournalGrows : Type 0
 JournalGrows = (o : Opening) (b : Book) (es : List LogEntry) → (after_entries o b es).journal ≡ b.journal ++ placed_rows es
 
+-- and to the receipts: those that are there stay the first ones
+abbrev pub ReceiptsGrow : Type 0
+ReceiptsGrow = (o : Opening) (b : Book) (es : List LogEntry) →
+    (more : List Receipt) × ((after_entries o b es).ledger.receipts ≡ b.ledger.receipts ++ more)
+
 -- a history is one of the extended opening too, and there it leads to the book with the further rows: no receipt changes
 abbrev pub ExtendKeeps : Type 0
 ExtendKeeps = (o : Opening) (txs : List Tx) (es : List LogEntry) → IsHistory o es →
     IsHistory (with_transactions o txs) es × (after (with_transactions o txs) es ≡ extend (after o es) txs)
 
--- a claim answers Over only where each row that isn't Done waits for one of its submitter that was claimed 4 times
+-- the row, or an earlier one of its submitter, is Free and was claimed as often as a row may be
+abbrev pub WaitsForSpent : Opening → Book → ℕ → Type 0
+WaitsForSpent o b r = (q : ℕ) × (q ≤ r) × (submitter_at o.txs q ≡ submitter_at o.txs r) × (row_at b q ≡ row.Free MAX_CLAIMS)
+
+-- a claim answers Over only where each row that isn't Done waits for one that was claimed 4 times
 abbrev pub OverOnlyWhere : Type 0
-OverOnlyWhere = (o : Opening) (b : Book) → (claim o b).reply ≡ reply.Over →
-    (r : ℕ) → r < length o.txs → is_done (row_at b r) ≡ false →
-    (q : ℕ) × (q ≤ r) × (submitter_at o.txs q ≡ submitter_at o.txs r) × ((c : ℕ) × (row_at b q ≡ row.Free c) × (MAX_CLAIMS ≤ c))
+OverOnlyWhere = (o : Opening) (es : List LogEntry) → IsHistory o es → (claim o (after o es)).reply ≡ reply.Over →
+    (r : ℕ) → r < length o.txs → is_done (row_at (after o es) r) ≡ false → WaitsForSpent o (after o es) r
 
 -- a commit of what was drafted under the contract, whose reads agree, places its receipt and leaves its next store
 abbrev pub CommitIsRight : Type 0
@@ -117,12 +127,14 @@ CommitIsRight = (o : Opening) (b : Book) (r ticket stales : ℕ) (j : Judgement)
 abbrev pub open_rows : Opening → Book → List ℕ
 open_rows o b = filter (λ r. not (is_done (row_at b r))) (places o.txs)
 
--- For a list of events: the journal is the one that the book came with, then the rows that the replies placed, at the
--- numbers that they name, and then the others in row order; and the last book is one of legal entries.
+-- For a list of events: the entries that they add are legal and lead to the last book; the journal is the one that the
+-- book came with, then the rows that the replies placed, at the numbers that they name, and then the others in row order.
 pub record IsScheduled (o : Opening) (b : Book) (events : List Event) : Type 0 where
-  pub journal : (schedule_book o b events).journal ≡ (b.journal ++ map (λ p. p.0) (placings o (initial_core b) events)) ++ open_rows o (core_after o (initial_core b) events).book
+  pub legal : AreLegal o b (entries_added o (initial_core b) events)
+  pub leads : (core_after o (initial_core b) events).book ≡ after_entries o b (entries_added o (initial_core b) events)
   pub numbers : map (λ p. p.1) (placings o (initial_core b) events) ≡ range_with_len (next_seq b) (length (placings o (initial_core b) events))
-  pub legal : (es : List LogEntry) × AreLegal o b es × ((core_after o (initial_core b) events).book ≡ after_entries o b es)
+  pub journal : (schedule_book o b events).journal ≡
+      (b.journal ++ map (λ p. p.0) (placings o (initial_core b) events)) ++ open_rows o (core_after o (initial_core b) events).book
 
 -- every list of events is so
 abbrev pub EveryListOfEvents : Type 0

@@ -6,5 +6,6 @@ pub mod Counts
 pub mod Calls
 pub mod Drafted
 pub mod Core
+pub mod Replies
 pub mod Seats
 pub mod Laws

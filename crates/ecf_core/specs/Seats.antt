@@ -1,5 +1,5 @@
 -- What a seat at a shared book knows of the book's history.
-use Rattle.std.specs.Prelude.{◌≡◌, ◌≢◌, ◌≤◌, ℕ, nat_le, if◌then◌else◌, List, [], ◌++◌, length, slice_get, Some, All, AllPairs}
+use Rattle.std.specs.Prelude.{◌≡◌, ◌≢◌, ◌≤◌, ℕ, nat_le, if◌then◌else◌, List, [], ◌++◌, length, slice_get, Some, All, AllPairs, ◌⊎◌}
 use Rattle.std.specs.List.{enumerate_from}
 use Rattle.ecf_lang.specs.Store.{Cells}
 use Rattle.ecf_core.specs.declared.book.LogEntry.{LogEntry}
@@ -17,7 +17,7 @@ pub record IsSeat (seat : Seat) : Type 0 where
   pub own : All (λ m. slice_get seat.seen m.0 ≡ Some m.1) seat.mine
   pub differ : AllPairs (λ m n. m.0 ≢ n.0) seat.mine
 
--- two seats have no own entry in common
+-- no own entry of the one stands at the place of an own entry of the other
 abbrev pub AreApart : Seat → Seat → Type 0
 AreApart a b = All (λ m. All (λ n. m.0 ≢ n.0) b.mine) a.mine
 
@@ -60,3 +60,36 @@ EachCallAddsOne = (o : Opening) → CallsAddOne o
 abbrev pub CallKeepsSeat : Type 0
 CallKeepsSeat = (o : Opening) (call : Book → Answer) (reply : Reply) (before later : Seat) →
     AddsOneAtMost call → HasCalled o call reply before later → IsSeat before → IsSeat later
+
+-- a call leaves a seat apart from each other seat that it was apart from
+abbrev pub CallKeepsApart : Type 0
+CallKeepsApart = (o : Opening) (call : Book → Answer) (reply : Reply) (before later other : Seat) (called : HasCalled o call reply before later) →
+    IsSeat other → BeginsWith called.history other.seen → AreApart before other → AreApart later other
+
+-- a split gives two seats, apart from each other
+abbrev pub SplitKeepsSeats : Type 0
+SplitKeepsSeats = (seat : Seat) → IsSeat seat → let parts = split_seat seat in IsSeat parts.0 × IsSeat parts.1 × AreApart parts.0 parts.1
+
+-- what one seat has seen begins with what the other has: both are seats of one history
+abbrev pub SeeOneHistory : Seat → Seat → Type 0
+SeeOneHistory a b = BeginsWith a.seen b.seen ⊎ BeginsWith b.seen a.seen
+
+-- the joined seat is one, has the own entries of both, and has seen what both have
+pub record IsJoined (a b joined : Seat) : Type 0 where
+  pub seat : IsSeat joined
+  pub mine : joined.mine ≡ a.mine ++ b.mine
+  pub first : BeginsWith joined.seen a.seen
+  pub second : BeginsWith joined.seen b.seen
+  pub no_more : (joined.seen ≡ a.seen) ⊎ (joined.seen ≡ b.seen)
+
+-- a join of two seats that are apart gives such a seat
+abbrev pub JoinKeepsSeats : Type 0
+JoinKeepsSeats = (a b : Seat) → IsSeat a → IsSeat b → AreApart a b → SeeOneHistory a b → IsJoined a b (join_seats a b)
+
+-- it is apart from each seat that both were apart from
+abbrev pub JoinKeepsApart : Type 0
+JoinKeepsApart = (a b other : Seat) → AreApart a other → AreApart b other → AreApart (join_seats a b) other
+
+-- being apart holds both ways
+abbrev pub ApartBothWays : Type 0
+ApartBothWays = (a b : Seat) → AreApart a b → AreApart b a

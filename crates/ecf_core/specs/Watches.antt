@@ -1,5 +1,5 @@
 -- Watches: what they are shown of a transaction, how they vote on it, and what they tell.
-use Rattle.std.specs.Prelude.{ℕ, zero, suc, ◌==◌, Bool, true, false, not, if◌then◌else◌, List, [], ◌∷◌, ◌++◌, Option, Some, None, slice_get, codes, decimal}
+use Rattle.std.specs.Prelude.{◌≤◌, ℕ, zero, suc, ◌==◌, Bool, true, false, not, if◌then◌else◌, List, [], ◌∷◌, ◌++◌, Option, Some, None, slice_get, codes, decimal}
 use Rattle.std.specs.List.{list_any}
 use Rattle.ecf_lang.specs.declared.tx.Tx.{Tx}
 use Rattle.ecf_lang.specs.declared.tx.TxCall.{TxCall}
@@ -47,6 +47,15 @@ turn (Cap object most) count shown =
     if not (calls_object shown.tx object) then vote true count else (if count == most then vote false count else vote true (suc count))
 turn (Freeze object last) count shown =
     if count == last then vote (not (writes_object shown.writes object)) count else vote true (suc count)
+
+-- the most that a watch counts
+abbrev pub most_of : WatchSpec → ℕ
+most_of (Cap object most) = most
+most_of (Freeze object last) = last
+
+-- a count stays within that
+abbrev pub CountsStayWithin : Type 0
+CountsStayWithin = (spec : WatchSpec) (count : ℕ) (shown : Shown) → count ≤ most_of spec → (turn spec count shown).count ≤ most_of spec
 
 -- the place of the first watch that voted no, if one did, and the watches after the votes
 pub record Votes : Type 0 where

@@ -4,8 +4,10 @@
 
 ghost use Rattle.ecf_laws.specs.Laws.{RunKeepsStore};
 ghost use Rattle.ecf_verdicts.specs.SerialLaws.{LegalWhenWhole};
-ghost use Rattle.ecf_core.specs.Laws.{CommitIsRight, EachCallIsLegal, EveryListOfEvents, ExtendKeeps, FewEntries, FinishEnds, FullExactlyWhere, JournalGrows, JournalIsLegal, LedgerIsSerial, NoWatchIsSerial, OneClaimed, OverOnlyWhere, OverWithRowsLeft, RowsAgree, StoreIsStore, ThreeStales, TicketsRise};
-ghost use Rattle.ecf_core.specs.Seats.{CallKeepsSeat, EachCallAddsOne};
+ghost use Rattle.ecf_core.specs.Laws.{CommitIsRight, EachCallIsLegal, EveryListOfEvents, ExtendKeeps, FewEntries, FinishEnds, FullExactlyWhere, JournalGrows, JournalIsLegal, LedgerIsSerial, NoWatchIsSerial, OneClaimed, OverOnlyWhere, OverWithRowsLeft, ReceiptsGrow, RowsAgree, StoreIsStore, ThreeStales, TicketsRise};
+ghost use Rattle.ecf_core.specs.Replies.{ClaimExactlyWhere, CommitExactlyWhere, HereExactlyWhere, PastLastAddsNothing, ReclaimFreesAll, RefusedChangesNothing, RefusedExactlyWhere, ReleaseExactlyWhere};
+ghost use Rattle.ecf_core.specs.Seats.{ApartBothWays, CallKeepsApart, CallKeepsSeat, EachCallAddsOne, JoinKeepsApart, JoinKeepsSeats, SplitKeepsSeats};
+ghost use Rattle.ecf_core.specs.Watches.{CountsStayWithin};
 
 use ecf_laws::run_keeps_store;
 use ecf_verdicts::legal_when_whole;
@@ -116,4 +118,79 @@ pub fn call_keeps_seat()
 /// The queue refuses a draft exactly where it is full.
 pub fn full_exactly_where()
     ensures { FullExactlyWhere }
+{}
+
+/// A claim answers Work with the least row that may be claimed, Later and Over exactly where none may.
+pub fn claim_exactly_where()
+    ensures { ClaimExactlyWhere }
+{}
+
+/// When a commit answers Placed, Stale, LastStale and Gone.
+pub fn commit_exactly_where()
+    ensures { CommitExactlyWhere }
+{}
+
+/// A commit that is stale past the last time adds no entry.
+pub fn past_last_adds_nothing()
+    ensures { PastLastAddsNothing }
+{}
+
+/// When a run on the present store answers Placed and Gone.
+pub fn here_exactly_where()
+    ensures { HereExactlyWhere }
+{}
+
+/// When a release answers Freed and Gone.
+pub fn release_exactly_where()
+    ensures { ReleaseExactlyWhere }
+{}
+
+/// `reclaim` gives back each row that is Claimed, and answers how many they were.
+pub fn reclaim_frees_all()
+    ensures { ReclaimFreesAll }
+{}
+
+/// Further entries only add to the receipts, at their end.
+pub fn receipts_grow()
+    ensures { ReceiptsGrow }
+{}
+
+/// A watch never counts more than its number.
+pub fn counts_stay_within()
+    ensures { CountsStayWithin }
+{}
+
+/// An event is refused exactly where it doesn't apply to what its actor holds.
+pub fn refused_exactly_where()
+    ensures { RefusedExactlyWhere }
+{}
+
+/// A refused event adds no entry and leaves the core as it was.
+pub fn refused_changes_nothing()
+    ensures { RefusedChangesNothing }
+{}
+
+/// A call leaves a seat apart from each other seat that it was apart from.
+pub fn call_keeps_apart()
+    ensures { CallKeepsApart }
+{}
+
+/// A split gives two seats, apart from each other.
+pub fn split_keeps_seats()
+    ensures { SplitKeepsSeats }
+{}
+
+/// A join of two seats that are apart is a seat with the own entries of both, and has seen what both have.
+pub fn join_keeps_seats()
+    ensures { JoinKeepsSeats }
+{}
+
+/// A joined seat is apart from each seat that both were apart from.
+pub fn join_keeps_apart()
+    ensures { JoinKeepsApart }
+{}
+
+/// Being apart holds both ways.
+pub fn apart_both_ways()
+    ensures { ApartBothWays }
 {}

@@ -1,4 +1,4 @@
-use Rattle.ecf_core.proofs.GrowthLaws as proved
+use Rattle.ecf_core.proofs.BookLaws as proved
 use Rattle.ecf_core.proofs.over_only_where.Goals as goal
 
 pub returns : goal.returns

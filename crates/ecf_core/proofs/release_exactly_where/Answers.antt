@@ -1,0 +1,5 @@
+use Rattle.ecf_core.proofs.ReplyLaws as proved
+use Rattle.ecf_core.proofs.release_exactly_where.Goals as goal
+
+pub returns : goal.returns
+returns c = proved.release_exactly_where
