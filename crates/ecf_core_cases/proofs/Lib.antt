@@ -1,0 +1,9 @@
+pub mod StepLaws
+pub mod OvertakenSteps
+pub mod CameBackSteps
+pub mod ThreeTimesSteps
+pub mod GivenBackSteps
+pub mod TakenInOrderSteps
+pub mod FourLostSteps
+pub mod WatchSteps
+pub mod SeatSteps

@@ -1,0 +1,5 @@
+use Rattle.ecf_core_cases.proofs.WatchSteps as steps
+use Rattle.ecf_core_cases.proofs.frozen_tells.Goals as goal
+
+pub returns : goal.returns
+returns c = steps.frozen_tells

@@ -1,0 +1,10 @@
+pub mod Adder
+pub mod Schedules
+pub mod Overtaken
+pub mod CameBack
+pub mod ThreeTimes
+pub mod GivenBack
+pub mod TakenInOrder
+pub mod FourLost
+pub mod Watching
+pub mod TwoSeats
