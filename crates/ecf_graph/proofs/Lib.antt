@@ -1,0 +1,3 @@
+pub mod BitLaws
+pub mod RoundLaws
+pub mod RowLaws

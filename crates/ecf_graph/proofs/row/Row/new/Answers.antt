@@ -1,0 +1,5 @@
+use Rattle.ecf_graph.proofs.BitLaws.{member_none}
+use Rattle.ecf_graph.proofs.row.Row.new.Goals as goal
+
+pub returns : goal.returns
+returns c i = rw c.new.ensures.items (member_none i)

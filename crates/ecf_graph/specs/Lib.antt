@@ -1,0 +1,6 @@
+pub mod Ordered
+pub mod PathLemmas
+pub mod Paths
+pub mod Placement
+pub mod PlacementLemmas
+pub mod Rows

@@ -1,0 +1,4 @@
+pub mod CoverLaws
+pub mod PathLaws
+pub mod PlacementLaws
+pub mod StepLaws

@@ -1,0 +1,4 @@
+pub mod EndLemmas
+pub mod Laws
+pub mod Newest
+pub mod NewestLemmas
