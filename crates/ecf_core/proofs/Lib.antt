@@ -14,3 +14,4 @@ pub mod QueueLaws
 pub mod ReplyLaws
 pub mod RefusalLaws
 pub mod WatchLaws
+pub mod DraftedLaws

@@ -1,14 +1,15 @@
 -- What it is for a draft, and for what was judged of it, to be drafted under a contract: relations of plain values.
-use Rattle.std.specs.Prelude.{◌≡◌}
+use Rattle.std.specs.Prelude.{◌≡◌, []}
 use Rattle.ecf_lang.specs.declared.receipt.Receipt.{Receipt}
+use Rattle.ecf_lang.specs.declared.receipt.Receipt.TheVariants as receipt
 use Rattle.ecf_lang.specs.declared.run.Run.{Run}
 use Rattle.ecf_lang.specs.declared.tx.Tx.{Tx}
 use Rattle.ecf_lang.specs.declared.typed.Typed.{Typed}
 use Rattle.ecf_lang.specs.Draft.{AgreesWith, StandsFor}
 use Rattle.ecf_lang.specs.Fits.{Fits}
-use Rattle.ecf_lang.specs.Meaning.{run}
+use Rattle.ecf_lang.specs.Meaning.{run, kept_run}
 use Rattle.ecf_lang.specs.Store.{Store, Cells, IsStore, with_writes}
-use Rattle.ecf_verdicts.specs.Receipts.{receipt_on, next_store}
+use Rattle.ecf_verdicts.specs.Receipts.{receipt_of, receipt_on, next_store}
 use Rattle.ecf_verdicts.specs.SerialLaws.{IsCommitted}
 
 -- on a store, the run of the transaction reads and writes what the kept one did
@@ -41,3 +42,25 @@ pub record IsRightOn (typed : Typed) (j : Judgement) (store : Store) : Type 0 wh
 pub record IsJudged (typed : Typed) (j : Judgement) : Type 0 where
   pub fits : Fits typed j.tx
   pub right : (store : Store) → IsStore store → AgreesWith j.reads store → IsRightOn typed j store
+
+-- the writes of a run that is committed; of another, none
+abbrev pub committed_writes : Receipt → Cells → Cells
+committed_writes (receipt.Committed answer fuel orders) writes = writes
+committed_writes (receipt.Reverted cause fuel) writes = []
+committed_writes (receipt.OutOfFuel fuel) writes = []
+committed_writes (receipt.Vetoed object at cycle fuel) writes = []
+committed_writes (receipt.Barred watch fuel) writes = []
+
+-- what is judged of a kept run
+abbrev pub judgement_of : Tx → Run → Judgement
+judgement_of tx kept =
+    let receipt = receipt_of kept.outcome kept.fuel kept.steps in
+    record { tx = tx; receipt = receipt; reads = kept.reads; writes = committed_writes receipt kept.writes }
+
+-- the run of a transaction that fits, kept, is drafted under the contract
+abbrev pub RunIsDrafted : Type 0
+RunIsDrafted = (typed : Typed) (store : Store) (tx : Tx) → Fits typed tx → IsDrafted typed tx (kept_run (run typed store tx))
+
+-- what is judged of a draft is drafted under each contract that the draft was
+abbrev pub DraftIsJudged : Type 0
+DraftIsJudged = (typed : Typed) (tx : Tx) (kept : Run) → IsDrafted typed tx kept → IsJudged typed (judgement_of tx kept)

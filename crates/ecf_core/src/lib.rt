@@ -2,14 +2,15 @@
 //! each function here is a law about them, and does nothing but call the laws that it rests on.
 #![tactic(auto)]
 
-ghost use Rattle.ecf_laws.specs.Laws.{RunKeepsStore};
+ghost use Rattle.ecf_laws.specs.Laws.{RunKeepsStore, RunStands, SameReadsSameRun};
 ghost use Rattle.ecf_verdicts.specs.SerialLaws.{LegalWhenWhole};
+ghost use Rattle.ecf_core.specs.Drafted.{DraftIsJudged, RunIsDrafted};
 ghost use Rattle.ecf_core.specs.Laws.{CommitIsRight, EachCallIsLegal, EveryListOfEvents, ExtendKeeps, FewEntries, FinishEnds, FullExactlyWhere, JournalGrows, JournalIsLegal, LedgerIsSerial, NoWatchIsSerial, OneClaimed, OverOnlyWhere, OverWithRowsLeft, ReceiptsGrow, RowsAgree, StoreIsStore, ThreeStales, TicketsRise};
 ghost use Rattle.ecf_core.specs.Replies.{ClaimExactlyWhere, CommitExactlyWhere, HereExactlyWhere, PastLastAddsNothing, ReclaimFreesAll, RefusedChangesNothing, RefusedExactlyWhere, ReleaseExactlyWhere};
 ghost use Rattle.ecf_core.specs.Seats.{ApartBothWays, CallKeepsApart, CallKeepsSeat, EachCallAddsOne, JoinKeepsApart, JoinKeepsSeats, SplitKeepsSeats};
 ghost use Rattle.ecf_core.specs.Watches.{CountsStayWithin};
 
-use ecf_laws::run_keeps_store;
+use ecf_laws::{run_keeps_store, run_stands, same_reads_same_run};
 use ecf_verdicts::legal_when_whole;
 
 pub mod book;
@@ -93,6 +94,19 @@ pub fn over_only_where()
 /// Over doesn't say that each row was claimed four times: a later row of a submitter waits for an earlier one.
 pub fn over_with_rows_left()
     ensures { OverWithRowsLeft }
+{}
+
+/// The run of a transaction that fits, kept, is drafted under the contract.
+pub fn run_is_drafted()
+    ensures { RunIsDrafted }
+{
+    run_stands();
+    same_reads_same_run();
+}
+
+/// What is judged of a draft is drafted under each contract that the draft was.
+pub fn draft_is_judged()
+    ensures { DraftIsJudged }
 {}
 
 /// A commit of what was drafted under the contract, whose reads agree, places its receipt and leaves its next store.
