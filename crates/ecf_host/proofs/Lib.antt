@@ -1,7 +1,9 @@
 pub mod Fields
-pub mod Small
-pub mod Lines
-pub mod OneInvocation
-pub mod Settled
-pub mod Complete
-pub mod Faulted
+pub mod StreamLaws
+pub mod JournalLaws
+pub mod DeliveryLaws
+pub mod ContractLaws
+pub mod SmallLaws
+pub mod OneLaws
+pub mod ServedLaws
+pub mod RunLaws

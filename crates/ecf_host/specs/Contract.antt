@@ -1,56 +1,59 @@
--- Contract files: which are accepted, and why others are refused.
-use Rattle.std.specs.Prelude.{◌≡◌, ℕ, List, Option, Some, None}
+-- The stages of a contract: its file is fetched, cut into tokens, read as a tree and built.
+use Rattle.std.specs.Prelude.{◌≡◌, ℕ, ◌≤◌, List, length, Option, Some, None, Result, Ok, Err}
+use Rattle.ecf_lang.specs.declared.limits.TheConstants.{MAX_CONTRACT_BYTES}
 use Rattle.ecf_lang.specs.declared.tree.Tree.{Tree}
 use Rattle.ecf_lang.specs.declared.typed.Typed.{Typed}
-use Rattle.ecf_edge.specs.Shelf.{Files, HoldsNoneUnder, HoldsMoreUnder}
+use Rattle.ecf_edge.specs.Count.{counted_up}
+use Rattle.ecf_edge.specs.Shelf.{HoldsUnder, HoldsNoneUnder, HoldsMoreUnder}
 use Rattle.ecf_grammar.specs.declared.tokens.Token.{Token}
 use Rattle.ecf_grammar.specs.Reading.{Reads, IsFaulty, Fault}
-use Rattle.ecf_grammar.specs.Lexemes.{Lexeme, lexemes_of}
+use Rattle.ecf_grammar.specs.Lexemes.{lexemes_of}
 use Rattle.ecf_grammar.specs.Spells.{IsFileOf, IsOutOfPlace, IsTooDeep}
 use Rattle.ecf_small.specs.Small.{typed_of}
 use Rattle.ecf_host.specs.declared.refusal.Refusal.{Refusal}
 use Rattle.ecf_host.specs.declared.refusal.Refusal.TheVariants.{TooLong, BadByte, WideNumber, TooManyTokens, Syntax, TooDeep, Unbuilt, Missing, ReadFault}
+use Rattle.ecf_host.specs.Stages.{Stage, ◌▷◌}
+use Rattle.ecf_host.specs.World.{ShelfState}
 
--- the most bytes of a contract file
-abbrev pub contract_limit : ℕ
-contract_limit = 1048576
+-- the text of a file, of no more bytes than may be
+pub record IsFetched (shelf : ShelfState) (file text : List ℕ) : Type 0 where
+  pub held : HoldsUnder shelf.files file text
+  pub within : length text ≤ MAX_CONTRACT_BYTES
 
--- a text reads as tokens of whose lexemes this holds
-pub record OnLexemes (text : List ℕ) (P : List Lexeme → Type 0) : Type 0 where
-  pub tokens : List Token
-  pub reads : Reads text tokens
-  pub holds : P (lexemes_of text tokens)
+-- fetched: a file is missing, too long or unreadable only where the shelf counts that, and counts nothing else
+abbrev pub fetched : ShelfState → ShelfState → List ℕ → Stage (List ℕ)
+fetched before after file (Ok text) = IsFetched before file text
+fetched before after file (Err Missing) =
+    HoldsNoneUnder before.files file × (after ≡ record before { absences = counted_up before.absences })
+fetched before after file (Err TooLong) =
+    HoldsMoreUnder before.files file MAX_CONTRACT_BYTES × (after ≡ record before { long_answers = counted_up before.long_answers })
+fetched before after file (Err ReadFault) = after ≡ record before { faults = counted_up before.faults }
+fetched before after file (Err _) = ⊥
 
--- a text spells this tree
-abbrev pub HasTree : List ℕ → Tree → Type 0
-HasTree text tree = OnLexemes text (λ lexemes. IsFileOf lexemes tree)
+-- the refusal of a text with a byte at fault
+abbrev pub refusal_of_fault : Fault → Refusal
+refusal_of_fault (Fault.BadByte at) = BadByte at
+refusal_of_fault (Fault.WideNumber at) = WideNumber at
+refusal_of_fault (Fault.TooManyTokens at) = TooManyTokens at
 
--- a text is accepted as this contract
-pub record IsContract (text : List ℕ) (typed : Typed) : Type 0 where
-  pub tree : Tree
-  pub has_tree : HasTree text tree
-  pub builds : typed_of tree ≡ Some typed
+-- lexed: the tokens of a text, or its byte at fault
+abbrev pub lexed : List ℕ → Stage (List Token)
+lexed text (Ok tokens) = Reads text tokens
+lexed text (Err refusal) = (fault : Fault) × (refusal ≡ refusal_of_fault fault) × IsFaulty text fault
 
--- a text spells a tree that is no contract of the kind that can be run so far
-pub record IsUnbuilt (text : List ℕ) : Type 0 where
-  pub tree : Tree
-  pub has_tree : HasTree text tree
-  pub none : typed_of tree ≡ None
+-- parsed: the tree that tokens spell, or the first of them out of place or nested too deep
+abbrev pub parsed : List ℕ → List Token → Stage Tree
+parsed text tokens (Ok tree) = IsFileOf (lexemes_of text tokens) tree
+parsed text tokens (Err (Syntax token)) = IsOutOfPlace (lexemes_of text tokens) token
+parsed text tokens (Err (TooDeep token)) = IsTooDeep (lexemes_of text tokens) token
+parsed text tokens (Err _) = ⊥
 
--- a text is refused for this cause
-abbrev pub IsRefusedText : List ℕ → Refusal → Type 0
-IsRefusedText text (BadByte at) = IsFaulty text (Fault.BadByte at)
-IsRefusedText text (WideNumber at) = IsFaulty text (Fault.WideNumber at)
-IsRefusedText text (TooManyTokens at) = IsFaulty text (Fault.TooManyTokens at)
-IsRefusedText text (Syntax token) = OnLexemes text (λ lexemes. IsOutOfPlace lexemes token)
-IsRefusedText text (TooDeep token) = OnLexemes text (λ lexemes. IsTooDeep lexemes token)
-IsRefusedText text Unbuilt = IsUnbuilt text
-IsRefusedText text _ = ⊥
+-- built: the numbered form of a tree, where it is of the kind that can be run so far
+abbrev pub built : Tree → Stage Typed
+built tree (Ok typed) = typed_of tree ≡ Some typed
+built tree (Err Unbuilt) = typed_of tree ≡ None
+built tree (Err _) = ⊥
 
--- A file can't be fetched for this cause. `failed`, `long` and `absent` say that a count rose in the fetch: of the shelf's
--- faults, of contents that were too long, of names under which there was nothing.
-abbrev pub IsFetchFault : Option Files → List ℕ → (failed long absent : Type 0) → Refusal → Type 0
-IsFetchFault contents file failed long absent TooLong = long × HoldsMoreUnder contents file contract_limit
-IsFetchFault contents file failed long absent Missing = absent × HoldsNoneUnder contents file
-IsFetchFault contents file failed long absent ReadFault = failed
-IsFetchFault contents file failed long absent _ = ⊥
+-- the contract that a text is
+abbrev pub contract : List ℕ → Stage Typed
+contract text = lexed text ▷ (λ tokens. parsed text tokens ▷ built)

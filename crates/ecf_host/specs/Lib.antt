@@ -1,9 +1,11 @@
 pub mod Words
 pub mod Refusals
-pub mod Halts
+pub mod World
+pub mod Stages
 pub mod Contract
 pub mod Stream
-pub mod Asked
-pub mod Journals
 pub mod Answers
-pub mod Complete
+pub mod Due
+pub mod Served
+pub mod Failures
+pub mod Delivery

@@ -1,7 +1,8 @@
 -- Why nothing was run, with the status and the note of each cause.
 use Rattle.std.specs.Prelude.{ℕ, List, ◌++◌, codes, decimal}
 use Rattle.ecf_host.specs.declared.refusal.Refusal.{Refusal}
-use Rattle.ecf_host.specs.declared.refusal.Refusal.TheVariants.{Words, TooLong, BadByte, WideNumber, TooManyTokens, Syntax, TooDeep, Unbuilt, StreamUnbuilt, Missing, ReadFault, StreamReadFault}
+use Rattle.ecf_host.specs.declared.refusal.Refusal.TheVariants.{Words, TooLong, BadByte, WideNumber, TooManyTokens, Syntax, TooDeep, Unbuilt}
+use Rattle.ecf_host.specs.declared.refusal.Refusal.TheVariants.{StreamUnbuilt, Missing, ReadFault, StreamReadFault}
 
 -- the status of a refusal
 abbrev pub status_of : Refusal → ℕ

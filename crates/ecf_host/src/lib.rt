@@ -3,9 +3,11 @@
 
 mod contract;
 mod deliver;
-mod halt;
+mod failure;
 mod journal;
+mod laws;
 mod refusal;
+mod run;
 mod store;
 mod stream;
 mod top;

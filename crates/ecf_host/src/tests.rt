@@ -2,6 +2,7 @@
 
 use crate::host;
 use ecf_edge::{MemShelf, MemSink, MemSource};
+use ecf_lang::limits::MAX_CONTRACT_BYTES;
 use std::alloc::{AllocError, Global};
 
 const COUNTER: &str = "object Counter { num n; method bump(): num { n = n + 1; return n; } }";
@@ -14,11 +15,12 @@ const JOURNAL: &str = "1 1.1 Counter bump 100 -> committed 1 fuel 14\nend\nCount
 
 const LINE: &str = "1 Counter bump 100\n";
 
-// What a call is made over: the contract, the stream, how many bytes a read gives and a write takes, and which fetch, read, write and
-// write of a note fail, by number; 0 for none.
+// What a call is made over: the contract, with so many blanks behind it, the stream, how many bytes a read gives and a write
+// takes, and which fetch, read, write and write of a note fail, by number; 0 for none.
 #[derive(Clone, Copy)]
 struct Case {
     contract: &'static str,
+    contract_blanks: usize,
     stream: &'static str,
     step: usize,
     fetch: u64,
@@ -39,6 +41,14 @@ fn failing(alloc: Global, number: u64) -> Result<Vec<u64>, AllocError> {
     Ok(vec![in alloc; number]?)
 }
 
+// A text, and so many blanks.
+fn padded(alloc: Global, text: &str, blanks: usize) -> Result<Vec<u8>, AllocError> {
+    let mut bytes = Vec::from_slice(alloc, text.as_bytes())?;
+    bytes.extend_from_slice(vec![in alloc; b' '; blanks]?.as_slice())?;
+    Ok(bytes)
+}
+
+// Calls `host`. It has no clauses, so nothing that is proved of a test carries those of `host`.
 fn called(rt: &HostRuntime, file: &str, case: Case) -> Result<Left, AllocError> {
     let alloc = rt.alloc();
     let step = case.step.max(1);
@@ -49,7 +59,7 @@ fn called(rt: &HostRuntime, file: &str, case: Case) -> Result<Left, AllocError> 
     let files = vec![in alloc;
         (
             String::from_str(alloc, "c.ecf")?,
-            Vec::from_slice(alloc, case.contract.as_bytes())?
+            padded(alloc, case.contract, case.contract_blanks)?
         ),
     ]?;
     let mut shelf = MemShelf::new(files, failing(alloc, case.fetch)?);
@@ -76,6 +86,7 @@ fn called(rt: &HostRuntime, file: &str, case: Case) -> Result<Left, AllocError> 
 fn over(stream: &'static str, step: usize) -> Case {
     Case {
         contract: COUNTER,
+        contract_blanks: 0,
         stream,
         step,
         fetch: 0,
@@ -182,6 +193,22 @@ fn tells_why_a_contract_is_refused(rt: HostRuntime) -> Result<(), AllocError> {
         assert_eq!(rt; left.status, 2);
         assert_eq!(rt; left.note.as_slice(), note.as_bytes());
         assert_eq!(rt; left.out.len(), 0);
+    }
+    Ok(())
+}
+
+#[test]
+fn refuses_a_contract_over_its_limit(rt: HostRuntime) -> Result<(), AllocError> {
+    let spare = MAX_CONTRACT_BYTES - COUNTER.len();
+    let rows = [(spare, 0, ""), (spare + 1, 2, "contract: too long\n")];
+    for (contract_blanks, status, note) in rows {
+        let case = Case {
+            contract_blanks,
+            ..over(LINE, 9)
+        };
+        let left = called(&rt, "c.ecf", case)?;
+        assert_eq!(rt; left.status, status);
+        assert_eq!(rt; left.note.as_slice(), note.as_bytes());
     }
     Ok(())
 }

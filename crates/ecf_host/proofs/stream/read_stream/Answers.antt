@@ -1,11 +1,17 @@
-use Rattle.std.proofs.Common.{subst}
-use Rattle.ecf_stream.specs.OneLine.{SaysNothing}
-use Rattle.ecf_host.proofs.Lines.{says_nothing}
+-- A stream that says nothing was read to its end.
+use Rattle.std.proofs.Common.{◌≡◌, ◌∙◌, IfSome, ap, sym, subst, inl}
+use Rattle.ecf_edge.specs.Source.{faults_after_ending}
+use Rattle.ecf_host.proofs.StreamLaws.{ended, says_none}
 use Rattle.ecf_host.proofs.stream.read_stream.Goals as goal
 
 pub returns-clause-refused : goal.returns-clause-refused
 returns-clause-refused g c =
-    says_nothing c.args.typed.now (g.S.Source.left c.args.input.now) (g.S.Source.left c.read_all.new.source) (Unit {0}) c.in_ok-reading.reading.bytes.items
-    (c.in_ok-reading.ensures.whole c.in-End.is)
-    (subst (λ b. SaysNothing c.args.typed.now b) c.as_slice.ensures.value (rw c.in-None.is at c.in_ok-tx.ensures.none))
-    (c.in_ok-reading.ensures.end c.in-End.is)
+    let end = ended c.in_ok-read_all.field-0.ending c.in_ok-read_all.field-0.bytes c.in_ok-bytes.bytes c.in_ok-bytes.ensures in
+    let read = ap (λ bytes. bytes.items) end.1 ∙ sym c.as_slice.ensures.value in
+    record {
+      says_none = says_none c.args.typed.now (g.S.Source.left c.args.input.now) c.as_slice.result.now
+          (subst (λ b. IfSome (g.S.Source.left c.args.input.now) (λ all. b ≡ all)) read (c.in_ok-read_all.ensures.whole end.0))
+          (rw c.in-None.is at c.in_ok-tx.ensures.none);
+      read = inl (c.in_ok-read_all.ensures.end end.0);
+      faults = c.in_ok-read_all.ensures.counted ∙ ap (faults_after_ending (g.S.Source.faults c.args.input.now)) end.0;
+    }

@@ -1,11 +1,15 @@
-use Rattle.ecf_host.proofs.Complete.{complete}
-use Rattle.ecf_host.proofs.Faulted.{cause_told}
+-- The words name a file, and what came of running it was delivered.
+use Rattle.std.proofs.Common.{Some, subst}
+use Rattle.std.specs.Option.{option_map}
+use Rattle.ecf_host.specs.Served.{IsServed}
+use Rattle.ecf_host.specs.Words.{Command}
+use Rattle.ecf_host.specs.World.{world}
+use Rattle.ecf_host.proofs.ServedLaws.{served}
 use Rattle.ecf_host.proofs.top.host.Goals as goal
 
-pub returns-in-Some-clause-complete : goal.returns-in-Some-clause-complete
-returns-in-Some-clause-complete g c =
-    complete _ c.in-Some.file.now _ _ _ _ _ _ _ _ c.in-Some.ensures c.run_file.ensures.statuses c.run_file.ensures.refused c.run_file.ensures.write_fault
-
-pub returns-in-Some-clause-refuses : goal.returns-in-Some-clause-refuses
-returns-in-Some-clause-refuses g c =
-    cause_told _ c.in-Some.file.now _ _ _ _ _ _ _ _ c.in-Some.ensures c.run_file.ensures.statuses c.run_file.ensures.written c.run_file.ensures.refused c.run_file.ensures.write_fault
+pub returns-in-Some : goal.returns-in-Some
+returns-in-Some g c =
+    let before = world g.F.Shelf g.S.Source g.K.Sink g.N.Sink c.args.shelf.now c.args.input.now c.args.out.now c.args.note.now in
+    let after = world g.F.Shelf g.S.Source g.K.Sink g.N.Sink c.run-outcome.new.shelf c.run-outcome.new.input c.deliver.new.out c.deliver.new.note in
+    subst (λ file. IsServed (option_map Command.Run file) before after c.deliver.result) c.in-Some.ensures
+    (served c.one_due.ensures (Some (Command.Run c.in-Some.file.now)) before after _ c.deliver.result c.run-outcome.ensures c.deliver.ensures)

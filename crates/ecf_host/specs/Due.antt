@@ -1,0 +1,77 @@
+-- The answer that is due to a command, from the outside world before it and after it.
+use Rattle.std.specs.Prelude.{◌≡◌, ℕ, List, [], ◌∷◌, Option, Some, None, Result, Ok, Err}
+use Rattle.ecf_edge.specs.Count.{Rose}
+use Rattle.ecf_edge.specs.Shelf.{Files}
+use Rattle.ecf_lang.specs.declared.typed.Typed.{Typed}
+use Rattle.ecf_lang.specs.declared.tx.Tx.{Tx}
+use Rattle.ecf_host.specs.declared.refusal.Refusal.{Refusal}
+use Rattle.ecf_host.specs.declared.refusal.Refusal.TheVariants.{Words}
+use Rattle.ecf_host.specs.declared.failure.Failure.{Failure}
+use Rattle.ecf_host.specs.declared.failure.Failure.TheVariants.{Refused, NoMemory}
+use Rattle.ecf_host.specs.declared.failure.Report.{Report}
+use Rattle.ecf_host.specs.Answers.{Answer, answer_of, answer_of_report}
+use Rattle.ecf_host.specs.Contract.{fetched, contract}
+use Rattle.ecf_journals.specs.Journals.{IsJournal}
+use Rattle.ecf_host.specs.Stages.{Stage, ◌▷◌, of_shelf, computed, of_source, OneAtMost}
+use Rattle.ecf_host.specs.Stream.{streamed}
+use Rattle.ecf_host.specs.Words.{Command}
+use Rattle.ecf_host.specs.World.{Inputs}
+
+-- the journal of a stream's one transaction, with status 0
+pub record IsRun (typed : Typed) (tx : Tx) (answer : Answer) : Type 0 where
+  pub status : answer.status ≡ 0
+  pub journal : IsJournal typed (tx ∷ []) None answer.out
+  pub no_note : answer.note ≡ []
+
+-- run: a transaction has its journal
+abbrev pub ran : Typed → Tx → Stage Answer
+ran typed tx (Ok answer) = IsRun typed tx answer
+ran typed tx (Err refusal) = ⊥
+
+-- `run FILE`: the contract is fetched and read, then the stream, and its transaction is run
+abbrev pub due_of_run : List ℕ → Inputs → Inputs → Stage Answer
+due_of_run file before after =
+    of_shelf before after (fetched before.shelf after.shelf file) ▷ (λ text.
+    computed before after (contract text) ▷ (λ typed.
+    of_source before after (streamed typed before.source after.source) ▷
+    ran typed))
+
+-- words that are no command are refused, and neither shelf nor source is touched
+abbrev pub refused_words : Stage Answer
+refused_words (Ok answer) = ⊥
+refused_words (Err refusal) = refusal ≡ Words
+
+-- what may come of a command
+abbrev pub due : Option Command → Inputs → Inputs → Stage Answer
+due (Some (Command.Run file)) before after = due_of_run file before after
+due None before after = computed before after refused_words
+
+-- this answer is due
+pub record IsDue (command : Option Command) (before after : Inputs) (answer : Answer) : Type 0 where
+  pub outcome : Result Answer Refusal
+  pub comes : due command before after outcome
+  pub is : answer ≡ answer_of outcome
+
+-- nothing was counted: no fetch and no read went wrong
+pub record IsUncounted (before after : Inputs) : Type 0 where
+  pub shelf : after.shelf ≡ before.shelf
+  pub faults : after.source.faults ≡ before.source.faults
+
+-- a command came to a report or a refusal that is due; where memory ran out, nothing was counted before
+abbrev pub Comes : Option Command → Inputs → Inputs → Result Report Failure → Type 0
+Comes command before after (Ok report) = due command before after (Ok (answer_of_report report))
+Comes command before after (Err (Refused refusal)) = due command before after (Err refusal)
+Comes command before after (Err NoMemory) = IsUncounted before after
+
+-- shelf and source tell what they have, and neither a fetch nor a read failed
+pub record IsSmooth (before after : Inputs) : Type 0 where
+  pub files : Files
+  pub files_told : before.shelf.files ≡ Some files
+  pub bytes : List ℕ
+  pub bytes_told : before.source.left ≡ Some bytes
+  pub fetches : ¬ Rose before.shelf.faults after.shelf.faults
+  pub reads : ¬ Rose before.source.faults after.source.faults
+
+-- then each command comes to one answer or refusal at most
+abbrev pub OneDue : Type 0
+OneDue = (command : Option Command) (before after : Inputs) → IsSmooth before after → OneAtMost (due command before after)
