@@ -1,5 +1,5 @@
 //! One round: desk and queue are made, the threads run, and all is taken apart again.
-ghost use Rattle.std.specs.Prelude.{◌≡◌, ◌+◌, ◌-◌, ◌^◌, ◌<◌, ◌≤◌, ◌++◌, true, length, IfOk, IfErr, IsPermutation};
+ghost use Rattle.std.specs.Prelude.{◌≡◌, ◌+◌, ◌<◌, ◌≤◌, ◌++◌, true, length, IfOk, IfErr, IsPermutation};
 ghost use mathlib.Core.List.{IsPrefix};
 ghost use Rattle.ecf_turnstile.specs.Histories.{StandIn, AreApart};
 ghost use Rattle.ecf_turnstile.specs.Seats.{own_of};
@@ -52,7 +52,8 @@ pub fn round<L: Ledger + Send + Sync, R: Threads + Wait + Sync>(
     ensures counts { IfOk result (λ done. length done.sum.entries.items ≡ length sum.entries.items + length (own_of done.seat)) }
 
     // Each number that was handed in was taken once, or is left.
-    ensures each_once { IfOk result (λ done. let account = account_of done.closing.value in IsPermutation account.handed (account.taken ++ done.left.items)) }
+    ensures each_once { IfOk result (λ done.
+        let account = account_of done.closing.value in IsPermutation account.handed (account.taken ++ done.left.items)) }
     ensures no_memory { IfErr result (λ refused. (refused.0.limit ≡ sum.limit) × IsPrefix sum.entries.items refused.0.entries.items) }
 {
     let mut sum = sum;
@@ -93,16 +94,17 @@ fn round_from<L: Ledger + Send + Sync, R: Threads + Wait + Sync>(
     rt: &R,
     alloc: Global,
     blank: Blank,
+    limit: u64,
     first: u64,
     threads: u64,
     items: u64,
 ) -> Result<(Vec<Entry>, Vec<u64>), AllocError>
     requires blank { (blank.name ≡ L.name) × (blank.parts ≡ L.parts) }
     requires threads { (0 < threads) × (threads < blank.parts) × (threads ≤ WHOLE_SHARE) }
-    ensures { IfOk result (λ done. is_legal (2 ^ 64 - 1) 0 done.0.items ≡ true) }
+    ensures { IfOk result (λ done. is_legal limit 0 done.0.items ≡ true) }
 {
     let (calls, mut share) = blank.open::<L>();
-    let mut sum = Sum::<L>::new(alloc, u64::MAX, calls);
+    let mut sum = Sum::<L>::new(alloc, limit, calls);
     let _reply = sum.add(first, &mut share);
     match round(rt, alloc, sum, share, threads, items) {
         Ok(
@@ -117,18 +119,27 @@ fn round_from<L: Ledger + Send + Sync, R: Threads + Wait + Sync>(
     }
 }
 
-/// The history of a sum to which one amount was added, and then, by as many threads, all numbers that they took from
-/// their queue; and the numbers that were left in it. Each thread hands in as many numbers: 0, 1, 2 and so on, and 0 again
-/// after 999.
+/// The history of a sum with this limit to which one amount was added, and then, by as many threads, all numbers that they
+/// took from their queue and that it had room for; and the numbers that were left in the queue. Each thread hands in as
+/// many numbers: 0, 1, 2 and so on, and 0 again after 999.
 pub fn run<R: Threads + Wait + Sync>(
     rt: &R,
     alloc: Global,
+    limit: u64,
     first: u64,
     threads: u64,
     items: u64,
 ) -> Result<(Vec<Entry>, Vec<u64>), AllocError>
     requires { (0 < threads) × (threads ≤ WHOLE_SHARE) }
-    ensures { IfOk result (λ done. is_legal (2 ^ 64 - 1) 0 done.0.items ≡ true) }
+    ensures { IfOk result (λ done. is_legal limit 0 done.0.items ≡ true) }
 {
-    round_from::<Brand, R>(rt, alloc, Blank::new(threads + 1), first, threads, items)
+    round_from::<Brand, R>(
+        rt,
+        alloc,
+        Blank::new(threads + 1),
+        limit,
+        first,
+        threads,
+        items,
+    )
 }

@@ -13,6 +13,7 @@ use Rattle.ecf_handoff.specs.Balance.{IsBalanced, Knows, every}
 use Rattle.ecf_handoff.proofs.AccountLaws.{each_set, set_comm, total_share-set, total_share-snoc, every-snoc, every-set_same, every-set_more, every-set_none, every-alone, others_none}
 
 module _ {T : Type 0} (fits : T → Type 0) where
+  -- an item more in the queue was handed in
   pub hand_keeps : (n j : ℕ) (v : Account T) (x : T) → 0 < v.share → fits x → Pushes (IsBalanced fits) n j v x (λ w. w ≡ with_handed v x)
   hand_keeps n j v x some_share ok items views room b at =
       let w : Account T = with_handed v x in
@@ -30,6 +31,7 @@ module _ {T : Type 0} (fits : T → Type 0) where
         refl,
       )
 
+  -- an item less in the queue was taken
   pub take_keeps : (j : ℕ) (v : Account T) → 0 < v.share → Pops (IsBalanced fits) j v (λ x w. (w ≡ with_taken v x) × fits x)
   take_keeps j v some_share x items views b at =
       let w : Account T = with_taken v x in
@@ -47,6 +49,7 @@ module _ {T : Type 0} (fits : T → Type 0) where
         (refl, All-head fits x items b.fit),
       )
 
+  -- a share is cut in two, and the lists stay with the first
   pub split_keeps : (j : ℕ) (v : Account T) → 2 ≤ v.share → Forks (IsBalanced fits) j v (kept_account v) (given_account v)
   split_keeps j v two items views b at =
       let l : Account T = kept_account v in
@@ -61,6 +64,7 @@ module _ {T : Type 0} (fits : T → Type 0) where
         fit = b.fit;
       }
 
+  -- two shares and their lists are one
   pub join_keeps : (j : ℕ) (v : Account T) (other : ℕ) (u : Account T) → Merges (IsBalanced fits) j v other u (united_account v u) spent_account
   join_keeps j v other u items views b at two at' =
       let w : Account T = united_account v u in
@@ -83,6 +87,7 @@ module _ {T : Type 0} (fits : T → Type 0) where
         fit = b.fit;
       }
 
+  -- who has the whole share knows that there are no other lists
   pub pass_knows : (j : ℕ) (v : Account T) → Learns (IsBalanced fits) j v (Knows fits v)
   pass_knows j v items views b at = (
     b.fit,

@@ -46,6 +46,7 @@ knows_on {E} {history} {history'} {author} {author'} {j} {u} k grows no_shorter 
 }
 
 module _ {B O E : Type 0} (opening_of : B → O) (entries_of : B → List E) where
+  -- a new table keeps the rule
   pub start_keeps : (x : B) (n : ℕ) → n ≡ length (entries_of x) → IsInTurn opening_of entries_of (opening_of x) (opening (n ∷ 0 ∷ 0 ∷ []) (Some x ∷ []) (first_view (opening_of x) (entries_of x)))
   start_keeps x n e = record {
     history = entries_of x;
@@ -76,12 +77,15 @@ module _ {B O E : Type 0} (opening_of : B → O) (entries_of : B → List E) whe
       only (suc j) u at = absurd (some-ne-none u (sym at))
 
   module _ (o : O) where
+    -- the rule of one table
     abbrev Rule : State (Option B) (View O E) → Type 0
     Rule = IsInTurn opening_of entries_of o
 
+    -- what a seat knows and holds
     abbrev Seat : Type 0
     Seat = Me (Option B) (View O E)
 
+    -- a draw: the ticket has an owner, and no other seat has it
     pub draw_keeps : (slots id : ℕ) (m : Seat) (old : ℕ) → old < 18446744073709551615
         → Allows Rule slots id m 1 (λ n. either (eqb n old) (old + 1) n) (Draws (step slots 1 old (old + 1) none) m)
     draw_keeps slots id m old small s k wide at bound =
@@ -145,6 +149,7 @@ module _ {B O E : Type 0} (opening_of : B → O) (entries_of : B → List E) whe
           (refl, (λ e. absurd (ne e)), λ _. refl),
         ))
 
+    -- a look: only the owner of the ticket that is served gets the slot
     pub look_keeps : (slots id : ℕ) (m : Seat) → m.0.phase ≡ Waiting → m.1 ≡ []
         → Allows Rule slots id m 2 (λ n. n) (Looks opening_of entries_of (step slots 2 0 0 none) m)
     look_keeps slots id m phase empty s k wide at bound =
@@ -214,6 +219,7 @@ module _ {B O E : Type 0} (opening_of : B → O) (entries_of : B → List E) whe
           ((λ e. absurd (ne e)), λ _. (refl, refl)),
         ))
 
+    -- where the history is as it was, the word stays
     extend_by_none : (slots id : ℕ) (m : Seat) (x : B) (d : ℕ) → m.1 ≡ (0, Some x) ∷ [] → m.0.phase ≡ Served → entries_of x ≡ m.0.seen → d ≡ 0
         → Allows Rule slots id m 0 (λ n. (n + d) % 2 ^ 64) (Extends entries_of (step slots 0 d 0 none) m)
     extend_by_none slots id m x d holds phase same none_more s k wide at bound =
@@ -252,6 +258,7 @@ module _ {B O E : Type 0} (opening_of : B → O) (entries_of : B → List E) whe
           (x, m.0.mine, holds, refl, inl (same, refl)),
         )
 
+    -- where it has one entry more, that place has an author
     extend_by_one : (slots id : ℕ) (m : Seat) (x : B) (e : E) (d : ℕ) → m.1 ≡ (0, Some x) ∷ [] → m.0.phase ≡ Served → entries_of x ≡ m.0.seen ++ e ∷ [] → d ≡ 1 → length m.0.seen + 1 < 18446744073709551616
         → Allows Rule slots id m 0 (λ n. (n + d) % 2 ^ 64) (Extends entries_of (step slots 0 d 0 none) m)
     extend_by_one slots id m x e d holds phase grown one small s k wide at bound =
@@ -303,6 +310,7 @@ module _ {B O E : Type 0} (opening_of : B → O) (entries_of : B → List E) whe
           (x, m.0.mine ++ (length m.0.seen, e) ∷ [], holds, refl, inr (e, grown, refl)),
         )
 
+    -- the value that is back in the slot has the history that is counted
     pub extend_keeps : (slots id : ℕ) (m : Seat) (x : B) (d : ℕ) → m.1 ≡ (0, Some x) ∷ [] → m.0.phase ≡ Served → GrowsByAtMostOne m.0.seen (entries_of x) → length m.0.seen + d ≡ length (entries_of x) → length (entries_of x) < 9223372036854775808
         → Allows Rule slots id m 0 (λ n. (n + d) % 2 ^ 64) (Extends entries_of (step slots 0 d 0 none) m)
     extend_keeps slots id m x d holds phase (inl same) counted small = extend_by_none slots id m x d holds phase same (let l : length (entries_of x) ≡ length m.0.seen = ap length same in omega arith)
@@ -310,6 +318,7 @@ module _ {B O E : Type 0} (opening_of : B → O) (entries_of : B → List E) whe
         let l : length (entries_of x) ≡ length m.0.seen + 1 = ap length grown.1 ∙ length-append m.0.seen (grown.0 ∷ []) in
         extend_by_one slots id m x grown.0 d holds phase grown.1 (omega arith) (omega arith)
 
+    -- the turn is passed on: the next ticket is served, and the value is at home
     pub pass_keeps : (slots id : ℕ) (m : Seat) (x : B) → m.1 ≡ (0, Some x) ∷ [] → m.0.phase ≡ Served → entries_of x ≡ m.0.seen → opening_of x ≡ o
         → Allows Rule slots id m 2 (λ n. (n + 1) % 2 ^ 64) (PassesOn (step slots 2 1 0 none) m)
     pass_keeps slots id m x holds phase same_log same s k wide at bound =
@@ -354,6 +363,7 @@ module _ {B O E : Type 0} (opening_of : B → O) (entries_of : B → List E) whe
           (refl, ap rest holds),
         )
 
+    -- a second seat knows what the first has seen
     pub split_keeps : (id : ℕ) (v : View O E) → Splits Rule id v v (second_view v)
     split_keeps id v s k at = record {
       history = k.history;
@@ -383,6 +393,7 @@ module _ {B O E : Type 0} (opening_of : B → O) (entries_of : B → List E) whe
           has = λ z. absurd (idle-served z);
         }
 
+    -- the entries of the other have a new author
     pub join_keeps : (id : ℕ) (v : View O E) (other : ℕ) (u : View O E) → Joins Rule id v other u (united_view v u) spent_view
     join_keeps id v other u s k at two at' =
         let here = k.each_seat id v at in
@@ -428,6 +439,7 @@ module _ {B O E : Type 0} (opening_of : B → O) (entries_of : B → List E) whe
           }) (λ j y ne at''. first j y at'' ne);
         }
 
+    -- of two first parts of one history the longer begins with the shorter
     pub compare_keeps : (slots id : ℕ) (m : Seat) → m.0.phase ≡ Idle → Allows Rule slots id m 0 (λ n. n) (Compares (step slots 0 0 0 none) m)
     compare_keeps slots id m phase s k wide at bound =
         let N : ℕ = get_or s.words 0 0 in
