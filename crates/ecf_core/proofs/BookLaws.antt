@@ -18,7 +18,7 @@ use Rattle.ecf_core.proofs.RowLaws.{Done, so_far}
 use Rattle.ecf_core.proofs.LedgerLaws.{plain}
 use Rattle.ecf_core.proofs.ReachLaws.{sound}
 use Rattle.ecf_core.proofs.CallLaws.{claim_legal, commit_legal, here_legal, release_legal, reclaim_legal, take_legal, finished}
-use Rattle.ecf_core.proofs.CountLaws.{Within, within_21, numbered}
+use Rattle.ecf_core.proofs.CountLaws.{Within, within_most, numbered}
 
 pub no_watch_is_serial : NoWatchIsSerial
 no_watch_is_serial typed txs = plain typed [] (genesis typed) txs
@@ -58,7 +58,7 @@ pub three_stales : ThreeStales
 three_stales o es h t = (numbered o es h).ticketed.few t
 
 pub few_entries : FewEntries
-few_entries o es h r = within_21 _ (row_at (after o es) r) ((numbered o es h).rowed r)
+few_entries o es h r = within_most _ (row_at (after o es) r) ((numbered o es h).rowed r)
 
 -- a row that was claimed too often was claimed as often as it may be
 exactly_spent : (n c : ℕ) (x : RowState) → Within n x → x ≡ row.Free c → MAX_CLAIMS ≤ c → c ≡ MAX_CLAIMS

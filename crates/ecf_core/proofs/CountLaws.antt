@@ -5,6 +5,7 @@ use Rattle.std.specs.List.{range_with_len, list_all}
 use Rattle.std.proofs.lemmas.Bool.{cases_eq, eqb-true, eq-eqb, ltb-true}
 use Rattle.std.proofs.lemmas.List.{get_or-set_same, get_or-set_other, length_push, append-nil, map-append}
 use Rattle.std.proofs.lemmas.List.Elements.{filter-append}
+use Rattle.ecf_lang.specs.declared.limits.TheConstants.{MAX_CLAIMS, MAX_STALES}
 use Rattle.ecf_lang.specs.declared.tx.Tx.{Tx}
 use Rattle.ecf_verdicts.specs.Journals.{places}
 use Rattle.ecf_core.specs.declared.book.RowState.{RowState}
@@ -14,7 +15,7 @@ use Rattle.ecf_core.specs.declared.book.LogWhat.{LogWhat}
 use Rattle.ecf_core.specs.declared.book.LogWhat.TheVariants as log
 use Rattle.ecf_core.specs.Book.{Opening, Book, new_book, row_at, is_claimed, is_done, stales_under, earlier_rows, has_claim_left, may_be_claimed, as_claimed, as_stale, as_freed, after_change, after}
 use Rattle.ecf_core.specs.Legal.{IsLegalChange, IsHistory}
-use Rattle.ecf_core.specs.Counts.{is_off, is_stale, gives_ticket, entries_of, stales_of, given_tickets}
+use Rattle.ecf_core.specs.Counts.{is_off, is_stale, gives_ticket, most_entries, entries_of, stales_of, given_tickets}
 use Rattle.ecf_core.proofs.ListLaws.{range_high, false_not_true, none_not_some, some_same, and_left, found_in}
 use Rattle.ecf_core.proofs.RowLaws.{state, held_claimed, claimed_inside}
 use Rattle.ecf_core.proofs.ReachLaws.{Sound, sound_first, sound_step, goes}
@@ -34,16 +35,20 @@ not_same a b d = go (a == b) refl
     go true e = absurd (d (eqb-true a b e))
     go false e = refl
 
+-- a claim, its stale commits and its end
+abbrev per_claim : ℕ
+per_claim = MAX_STALES + 2
+
 -- what is known of a row's state by its entries
 abbrev pub Within : ℕ → RowState → Type 0
-Within n (row.Free c) = (n ≤ 5 * c) × (c ≤ 4)
-Within n (row.Claimed t c s) = (n + 4 ≤ 5 * c + s) × (c ≤ 4) × (s ≤ 3)
-Within n (row.Done m) = n ≤ 21
+Within n (row.Free c) = (n ≤ per_claim * c) × (c ≤ MAX_CLAIMS)
+Within n (row.Claimed t c s) = (suc (n + MAX_STALES) ≤ per_claim * c + s) × (c ≤ MAX_CLAIMS) × (s ≤ MAX_STALES)
+Within n (row.Done m) = n ≤ most_entries
 
-pub within_21 : (n : ℕ) (x : RowState) → Within n x → n ≤ 21
-within_21 n (row.Free c) w = omega (arith, w)
-within_21 n (row.Claimed t c s) w = omega (arith, w)
-within_21 n (row.Done m) w = w
+pub within_most : (n : ℕ) (x : RowState) → Within n x → n ≤ most_entries
+within_most n (row.Free c) w = omega (arith, w)
+within_most n (row.Claimed t c s) w = omega (arith, w)
+within_most n (row.Done m) w = w
 
 below : (a b : ℕ) → nat_lt a b ≡ true → a < b
 below a b e = ltb-true a b e
@@ -56,16 +61,16 @@ held_is u c s t n e = go (u == t) refl e
     go false f e = none_not_some e
 
 within_claimed : (n t : ℕ) (x : RowState) → has_claim_left x ≡ true → Within n x → Within (suc n) (as_claimed t x)
-within_claimed n t (row.Free c) e w = (omega (arith, w, below c 4 e), omega (arith, below c 4 e), omega arith)
+within_claimed n t (row.Free c) e w = (omega (arith, w, below c MAX_CLAIMS e), omega (arith, below c MAX_CLAIMS e), omega arith)
 within_claimed n t (row.Claimed u c s) e w = false_not_true refl e
 within_claimed n t (row.Done m) e w = false_not_true refl e
 
-within_staler : (n t k : ℕ) (x : RowState) → stales_under t x ≡ Some k → k < 3 → Within n x → Within (suc n) (as_stale x)
+within_staler : (n t k : ℕ) (x : RowState) → stales_under t x ≡ Some k → k < MAX_STALES → Within n x → Within (suc n) (as_stale x)
 within_staler n t k (row.Free c) e l w = none_not_some e
 within_staler n t k (row.Claimed u c s) e l w = let h = held_is u c s t k e in (omega (arith, w), w.1, omega (arith, h.1, l))
 within_staler n t k (row.Done m) e l w = none_not_some e
 
-within_placed : (n t k : ℕ) (x : RowState) → stales_under t x ≡ Some k → Within n x → suc n ≤ 21
+within_placed : (n t k : ℕ) (x : RowState) → stales_under t x ≡ Some k → Within n x → suc n ≤ most_entries
 within_placed n t k (row.Free c) e w = none_not_some e
 within_placed n t k (row.Claimed u c s) e w = omega (arith, w)
 within_placed n t k (row.Done m) e w = none_not_some e
@@ -75,7 +80,7 @@ within_freed n t k (row.Free c) e w = none_not_some e
 within_freed n t k (row.Claimed u c s) e w = (omega (arith, w), w.1)
 within_freed n t k (row.Done m) e w = none_not_some e
 
-within_finished : (n : ℕ) (x : RowState) → is_claimed x ≡ false → is_done x ≡ false → Within n x → suc n ≤ 21
+within_finished : (n : ℕ) (x : RowState) → is_claimed x ≡ false → is_done x ≡ false → Within n x → suc n ≤ most_entries
 within_finished n (row.Free c) e f w = omega (arith, w)
 within_finished n (row.Claimed u c s) e f w = false_not_true e refl
 within_finished n (row.Done m) e f w = false_not_true f refl
@@ -134,7 +139,7 @@ pub record Ticketed (es : List LogEntry) (rows : List RowState) (tickets : ℕ) 
   pub low : (r t n : ℕ) → stales_under t (state rows r) ≡ Some n → t ≤ tickets
   pub counts : (r t n : ℕ) → stales_under t (state rows r) ≡ Some n → stales_of t es ≡ n
   pub apart : (p q t n m : ℕ) → stales_under t (state rows p) ≡ Some n → stales_under t (state rows q) ≡ Some m → p ≡ q
-  pub few : (t : ℕ) → stales_of t es ≤ 3
+  pub few : (t : ℕ) → stales_of t es ≤ MAX_STALES
   pub fresh : (t : ℕ) → tickets < t → stales_of t es ≡ 0
   pub given : given_tickets es ≡ range_with_len 1 tickets
 
@@ -168,7 +173,7 @@ ticketed_let_go es e rows tickets r x calm idle inside out t = record {
   low = λ q u n h. (let old = back q u n h in t.low q u n old.1);
   counts = λ q u n h. stales_same u es e calm ∙ t.counts q u n (back q u n h).1;
   apart = λ p q u n m h k. t.apart p q u n m (back p u n h).1 (back q u m k).1;
-  few = λ u. subst (λ n. n ≤ 3) (sym (stales_same u es e calm)) (t.few u);
+  few = λ u. subst (λ n. n ≤ MAX_STALES) (sym (stales_same u es e calm)) (t.few u);
   fresh = λ u l. stales_same u es e calm ∙ t.fresh u l;
   given = tickets_same es e idle ∙ t.given;
 }
@@ -207,7 +212,7 @@ ticketed_claim es rows tickets r c e x calm gift is_next inside is t = record {
       | inr g ↦ t.apart p q u n m (other p u n f h) (other q u m g k)
     ]
   ];
-  few = λ u. subst (λ n. n ≤ 3) (sym (stales_same u es e calm)) (t.few u);
+  few = λ u. subst (λ n. n ≤ MAX_STALES) (sym (stales_same u es e calm)) (t.few u);
   fresh = λ u l. stales_same u es e calm ∙ t.fresh u (omega (arith, l));
   given = tickets_more es e ∙ ap (λ b. given_tickets es ++ cond b (e.ticket ∷ []) []) gift ∙ ap (λ z. given_tickets es ++ z ∷ []) (is_next ∙ omega arith) ∙ ap (λ l. l ++ (1 + tickets) ∷ []) t.given ∙ sym (range_more 1 tickets);
 }
@@ -219,7 +224,7 @@ ticketed_claim es rows tickets r c e x calm gift is_next inside is t = record {
     other q u n f h = ap (stales_under u) (sym (get_or-set_other rows r q x (row.Free 0) f)) ∙ h
 
 -- a row that is held is stale once more
-ticketed_stale : (es : List LogEntry) (rows : List RowState) (tickets r c k : ℕ) (e : LogEntry) (x : RowState) → is_stale e.what ≡ true → gives_ticket e.what ≡ false → k < 3 → stales_under e.ticket (state rows r) ≡ Some k → r < length rows → x ≡ row.Claimed e.ticket c (suc k) → Ticketed es rows tickets → Ticketed (es ++ e ∷ []) (slice_set rows r x) tickets
+ticketed_stale : (es : List LogEntry) (rows : List RowState) (tickets r c k : ℕ) (e : LogEntry) (x : RowState) → is_stale e.what ≡ true → gives_ticket e.what ≡ false → k < MAX_STALES → stales_under e.ticket (state rows r) ≡ Some k → r < length rows → x ≡ row.Claimed e.ticket c (suc k) → Ticketed es rows tickets → Ticketed (es ++ e ∷ []) (slice_set rows r x) tickets
 ticketed_stale es rows tickets r c k e x is_s idle few held inside is t = record {
   low = λ q u n h. elim (cases_eq q r) [ inl f ↦ subst (λ z. z ≤ tickets) (mine q u n f h).0 (t.low r e.ticket k held) | inr f ↦ t.low q u n (other q u n f h) ];
   counts = λ q u n h. elim (cases_eq q r) [
@@ -237,8 +242,8 @@ ticketed_stale es rows tickets r c k e x is_s idle few held inside is t = record
     ]
   ];
   few = λ u. elim (cases_eq e.ticket u) [
-    | inl f ↦ subst (λ z. stales_of z (es ++ e ∷ []) ≤ 3) f (omega (arith, more, few))
-    | inr f ↦ subst (λ n. n ≤ 3) (sym (same u f)) (t.few u)
+    | inl f ↦ subst (λ z. stales_of z (es ++ e ∷ []) ≤ MAX_STALES) f (omega (arith, more, few))
+    | inr f ↦ subst (λ n. n ≤ MAX_STALES) (sym (same u f)) (t.few u)
   ];
   fresh = λ u l. same u (λ f. absurd (omega (arith, f, l, t.low r e.ticket k held))) ∙ t.fresh u l;
   given = tickets_same es e idle ∙ t.given;
@@ -293,7 +298,7 @@ ticketed_step o es b r ticket (log.Off k) s t legal =
       low = t.low;
       counts = λ q u n h. stales_same u es e refl ∙ t.counts q u n h;
       apart = t.apart;
-      few = λ u. subst (λ n. n ≤ 3) (sym (stales_same u es e refl)) (t.few u);
+      few = λ u. subst (λ n. n ≤ MAX_STALES) (sym (stales_same u es e refl)) (t.few u);
       fresh = λ u l. stales_same u es e refl ∙ t.fresh u l;
       given = tickets_same es e refl ∙ t.given;
     }

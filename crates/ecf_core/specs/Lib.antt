@@ -8,4 +8,6 @@ pub mod Drafted
 pub mod Core
 pub mod Replies
 pub mod Seats
+pub mod Rounds
+pub mod RoundLemmas
 pub mod Laws

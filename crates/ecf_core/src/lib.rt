@@ -7,6 +7,7 @@ ghost use Rattle.ecf_verdicts.specs.SerialLaws.{LegalWhenWhole};
 ghost use Rattle.ecf_core.specs.Drafted.{DraftIsJudged, RunIsDrafted};
 ghost use Rattle.ecf_core.specs.Laws.{CommitIsRight, EachCallIsLegal, EveryListOfEvents, ExtendKeeps, FewEntries, FinishEnds, FullExactlyWhere, JournalGrows, JournalIsLegal, LedgerIsSerial, NoWatchIsSerial, OneClaimed, OverOnlyWhere, OverWithRowsLeft, ReceiptsGrow, RowsAgree, StoreIsStore, ThreeStales, TicketsRise};
 ghost use Rattle.ecf_core.specs.Replies.{ClaimExactlyWhere, CommitExactlyWhere, HereExactlyWhere, PastLastAddsNothing, ReclaimFreesAll, RefusedChangesNothing, RefusedExactlyWhere, ReleaseExactlyWhere};
+ghost use Rattle.ecf_core.specs.Rounds.{RoundsChain};
 ghost use Rattle.ecf_core.specs.Seats.{ApartBothWays, CallKeepsApart, CallKeepsSeat, EachCallAddsOne, JoinKeepsApart, JoinKeepsSeats, SplitKeepsSeats};
 ghost use Rattle.ecf_core.specs.Watches.{CountsStayWithin};
 
@@ -207,4 +208,9 @@ pub fn join_keeps_apart()
 /// Being apart holds both ways.
 pub fn apart_both_ways()
     ensures { ApartBothWays }
+{}
+
+/// A round after a round is a round.
+pub fn rounds_chain()
+    ensures { RoundsChain }
 {}
