@@ -1,8 +1,8 @@
 -- Seats.
 use Rattle.std.proofs.Common.{◌≡◌, ◌≢◌, ℕ, suc, ◌<◌, ◌≤◌, ◌==◌, ◌+◌, Bool, true, false, cond, List, [], ◌∷◌, ◌++◌, length, Option, Some, None, get_or, inl, inr, refl, sym, ap, ◌∙◌, subst, arith}
-use Rattle.std.specs.Prelude.{slice_get, nat_lt, nat_le, All, AllPairs}
+use Rattle.std.specs.Prelude.{slice_get, nat_lt, All, AllPairs}
 use Rattle.std.specs.List.{enumerate_from}
-use Rattle.std.proofs.lemmas.Bool.{cases_eq, leb-true, leb-false}
+use Rattle.std.proofs.lemmas.Bool.{cases_eq, le-ltb, ltb-false}
 use Rattle.std.proofs.lemmas.List.{append-nil, length_push, length-append, get_or_push, get_or_append_left}
 use Rattle.std.proofs.lemmas.List.Elements.{All-append}
 use Rattle.std.proofs.lemmas.Option.{slice_get_within}
@@ -15,7 +15,7 @@ use Rattle.ecf_core.specs.declared.book.LogWhat.TheVariants as log
 use Rattle.ecf_core.specs.declared.event.Reply.TheVariants as reply
 use Rattle.ecf_core.specs.Book.{Book, row_at, stales_under, claimable_row, after}
 use Rattle.ecf_core.specs.Calls.{Answer, claim_answer, claim, first_changed_read, reply_only, reply_with, stale_answer, commit_answer, if_held, commit, commit_here, release}
-use Rattle.ecf_core.specs.Seats.{Seat, IsSeat, AreApart, BeginsWith, EachCallAddsOne, CallKeepsSeat, CallKeepsApart, SplitKeepsSeats, ApartBothWays, JoinKeepsApart, JoinKeepsSeats}
+use Rattle.ecf_core.specs.Seats.{Seat, IsSeat, ShareNoEntry, BeginsWith, EachCallAddsOne, CallKeepsSeat, CallKeepsUnshared, SplitKeepsSeats, UnsharedBothWays, JoinKeepsUnshared, JoinKeepsSeats}
 use Rattle.ecf_core.proofs.ListLaws.{get_left, get_last, Each_both}
 
 offered_one : (b : Book) (x : Option ℕ) → length (claim_answer b x).entries ≤ 1
@@ -97,8 +97,8 @@ low_places seat history s more =
     Each_from (λ m. m.0 < length history) seat.mine (λ m i. (let at = Each_at (λ m. slice_get seat.seen m.0 ≡ Some m.1) seat.mine m (Each_from_all (λ m. slice_get seat.seen m.0 ≡ Some m.1) seat.mine s.own) i in
     omega (arith, slice_get_within seat.seen m.0 m.1 at, ap (λ l. length l) more.1, length-append seat.seen more.0)))
 
-pub call_keeps_apart : CallKeepsApart
-call_keeps_apart o call reply before later other called seat more apart =
+pub call_keeps_unshared : CallKeepsUnshared
+call_keeps_unshared o call reply before later other called seat more apart =
     let n = length called.history in
     let es = (call (after o called.history)).entries in
     let low = low_places other called.history seat more in
@@ -110,11 +110,11 @@ call_keeps_apart o call reply before later other called seat more apart =
 pub split_keeps_seats : SplitKeepsSeats
 split_keeps_seats seat s = (s, record { own = λ k d l. absurd (omega (arith, l)); differ = λ i j d l m. absurd (omega (arith, m)) }, λ k d l j e m. absurd (omega (arith, m)))
 
-pub apart_both_ways : ApartBothWays
-apart_both_ways a b h = λ j e m k d l f. h k d l j e m (sym f)
+pub unshared_both_ways : UnsharedBothWays
+unshared_both_ways a b h = λ j e m k d l f. h k d l j e m (sym f)
 
-pub join_keeps_apart : JoinKeepsApart
-join_keeps_apart a b other h k = All-append (λ m. All (λ n. m.0 ≢ n.0) other.mine) a.mine b.mine h k
+pub join_keeps_unshared : JoinKeepsUnshared
+join_keeps_unshared a b other h k = All-append (λ m. All (λ n. m.0 ≢ n.0) other.mine) a.mine b.mine h k
 
 -- seats joined
 
@@ -123,23 +123,19 @@ no_rest [] e = refl
 no_rest (x ∷ rest) e = absurd (omega (arith, e))
 
 abbrev longer : List LogEntry → List LogEntry → List LogEntry
-longer a b = cond (nat_le (length a) (length b)) b a
+longer a b = cond (nat_lt (length a) (length b)) b a
 
 longer_first : (a b : List LogEntry) → BeginsWith a b → longer a b ≡ a
-longer_first a b more = go (nat_le (length a) (length b)) refl
-  where
-    go : (c : Bool) → nat_le (length a) (length b) ≡ c → cond c b a ≡ a
-    go true e =
-        let none = no_rest more.0 (omega (arith, leb-true (length a) (length b) e, ap (λ l. length l) more.1, length-append b more.0)) in
-        sym (more.1 ∙ ap (λ l. b ++ l) none ∙ append-nil b)
-    go false e = refl
+longer_first a b more = ap (λ c. cond c b a) (le-ltb (length a) (length b) (omega (arith, ap (λ l. length l) more.1, length-append b more.0)))
 
 longer_second : (a b : List LogEntry) → BeginsWith b a → longer a b ≡ b
-longer_second a b more = go (nat_le (length a) (length b)) refl
+longer_second a b more = go (nat_lt (length a) (length b)) refl
   where
-    go : (c : Bool) → nat_le (length a) (length b) ≡ c → cond c b a ≡ b
+    go : (c : Bool) → nat_lt (length a) (length b) ≡ c → cond c b a ≡ b
     go true e = refl
-    go false e = absurd (omega (arith, leb-false (length a) (length b) e, ap (λ l. length l) more.1, length-append a more.0))
+    go false e =
+        let none = no_rest more.0 (omega (arith, ltb-false (length a) (length b) e, ap (λ l. length l) more.1, length-append a more.0)) in
+        sym (more.1 ∙ ap (λ l. a ++ l) none ∙ append-nil a)
 
 pairs_both : {X : Type 0} (R : X → X → Type 0) (xs ys : List X) → Pairs R xs → Pairs R ys → Each (λ x. Each (R x) ys) xs → Pairs R (xs ++ ys)
 pairs_both R [] ys h k c = k
@@ -148,7 +144,7 @@ pairs_both R (x ∷ xs) ys h k c = (Each_both (R x) xs ys h.0 c.0, pairs_both R 
 own_within : (whole first : List LogEntry) (mine : List (ℕ × LogEntry)) → BeginsWith whole first → All (λ m. slice_get first m.0 ≡ Some m.1) mine → All (λ m. slice_get whole m.0 ≡ Some m.1) mine
 own_within whole first mine more own = λ k d l. ap (λ w. slice_get w (get_or mine k d).0) more.1 ∙ get_left first more.0 (get_or mine k d).0 (get_or mine k d).1 (own k d l)
 
-joined : (a b : Seat) (seen : List LogEntry) → IsSeat a → IsSeat b → AreApart a b → BeginsWith seen a.seen → BeginsWith seen b.seen → IsSeat (record { seen = seen; mine = a.mine ++ b.mine })
+joined : (a b : Seat) (seen : List LogEntry) → IsSeat a → IsSeat b → ShareNoEntry a b → BeginsWith seen a.seen → BeginsWith seen b.seen → IsSeat (record { seen = seen; mine = a.mine ++ b.mine })
 joined a b seen s t apart first second = record {
   own = All-append (λ m. slice_get seen m.0 ≡ Some m.1) a.mine b.mine (own_within seen a.seen a.mine first s.own) (own_within seen b.seen b.mine second t.own);
   differ = λ i j d l m. Pairs_at (λ m n. m.0 ≢ n.0) (a.mine ++ b.mine) both i j d l m;

@@ -1,5 +1,5 @@
 -- What a seat at a shared book knows of the book's history.
-use Rattle.std.specs.Prelude.{◌≡◌, ◌≢◌, ◌≤◌, ℕ, nat_le, if◌then◌else◌, List, [], ◌++◌, length, slice_get, Some, All, AllPairs, ◌⊎◌}
+use Rattle.std.specs.Prelude.{◌≡◌, ◌≢◌, ◌≤◌, ℕ, nat_lt, if◌then◌else◌, List, [], ◌++◌, length, slice_get, Some, All, AllPairs, ◌⊎◌}
 use Rattle.std.specs.List.{enumerate_from}
 use Rattle.ecf_lang.specs.Store.{Cells}
 use Rattle.ecf_core.specs.declared.book.LogEntry.{LogEntry}
@@ -18,8 +18,8 @@ pub record IsSeat (seat : Seat) : Type 0 where
   pub differ : AllPairs (λ m n. m.0 ≢ n.0) seat.mine
 
 -- no own entry of the one stands at the place of an own entry of the other
-abbrev pub AreApart : Seat → Seat → Type 0
-AreApart a b = All (λ m. All (λ n. m.0 ≢ n.0) b.mine) a.mine
+abbrev pub ShareNoEntry : Seat → Seat → Type 0
+ShareNoEntry a b = All (λ m. All (λ n. m.0 ≢ n.0) b.mine) a.mine
 
 -- a list begins with another
 abbrev pub BeginsWith : List LogEntry → List LogEntry → Type 0
@@ -37,9 +37,9 @@ pub record HasCalled (o : Opening) (call : Book → Answer) (reply : Reply) (bef
 abbrev pub split_seat : Seat → Seat × Seat
 split_seat seat = (seat, record { seen = seat.seen; mine = [] })
 
--- two seats made one: the longer of what they have seen, and the own entries of both
+-- two seats made one: the longer of what they have seen, the first's if both are of one length, and the own entries of both
 abbrev pub join_seats : Seat → Seat → Seat
-join_seats a b = record { seen = if nat_le (length a.seen) (length b.seen) then b.seen else a.seen; mine = a.mine ++ b.mine }
+join_seats a b = record { seen = if nat_lt (length a.seen) (length b.seen) then b.seen else a.seen; mine = a.mine ++ b.mine }
 
 -- a call that adds at most one entry
 abbrev pub AddsOneAtMost : (Book → Answer) → Type 0
@@ -61,14 +61,14 @@ abbrev pub CallKeepsSeat : Type 0
 CallKeepsSeat = (o : Opening) (call : Book → Answer) (reply : Reply) (before later : Seat) →
     AddsOneAtMost call → HasCalled o call reply before later → IsSeat before → IsSeat later
 
--- a call leaves a seat apart from each other seat that it was apart from
-abbrev pub CallKeepsApart : Type 0
-CallKeepsApart = (o : Opening) (call : Book → Answer) (reply : Reply) (before later other : Seat) (called : HasCalled o call reply before later) →
-    IsSeat other → BeginsWith called.history other.seen → AreApart before other → AreApart later other
+-- a call leaves a seat that shares no entry with another one so
+abbrev pub CallKeepsUnshared : Type 0
+CallKeepsUnshared = (o : Opening) (call : Book → Answer) (reply : Reply) (before later other : Seat) (called : HasCalled o call reply before later) →
+    IsSeat other → BeginsWith called.history other.seen → ShareNoEntry before other → ShareNoEntry later other
 
--- a split gives two seats, apart from each other
+-- a split gives two seats that share no entry
 abbrev pub SplitKeepsSeats : Type 0
-SplitKeepsSeats = (seat : Seat) → IsSeat seat → let parts = split_seat seat in IsSeat parts.0 × IsSeat parts.1 × AreApart parts.0 parts.1
+SplitKeepsSeats = (seat : Seat) → IsSeat seat → let parts = split_seat seat in IsSeat parts.0 × IsSeat parts.1 × ShareNoEntry parts.0 parts.1
 
 -- what one seat has seen begins with what the other has: both are seats of one history
 abbrev pub SeeOneHistory : Seat → Seat → Type 0
@@ -82,14 +82,14 @@ pub record IsJoined (a b joined : Seat) : Type 0 where
   pub second : BeginsWith joined.seen b.seen
   pub no_more : (joined.seen ≡ a.seen) ⊎ (joined.seen ≡ b.seen)
 
--- a join of two seats that are apart gives such a seat
+-- a join of two seats that share no entry gives such a seat
 abbrev pub JoinKeepsSeats : Type 0
-JoinKeepsSeats = (a b : Seat) → IsSeat a → IsSeat b → AreApart a b → SeeOneHistory a b → IsJoined a b (join_seats a b)
+JoinKeepsSeats = (a b : Seat) → IsSeat a → IsSeat b → ShareNoEntry a b → SeeOneHistory a b → IsJoined a b (join_seats a b)
 
--- it is apart from each seat that both were apart from
-abbrev pub JoinKeepsApart : Type 0
-JoinKeepsApart = (a b other : Seat) → AreApart a other → AreApart b other → AreApart (join_seats a b) other
+-- it shares no entry with a third with which neither did
+abbrev pub JoinKeepsUnshared : Type 0
+JoinKeepsUnshared = (a b other : Seat) → ShareNoEntry a other → ShareNoEntry b other → ShareNoEntry (join_seats a b) other
 
--- being apart holds both ways
-abbrev pub ApartBothWays : Type 0
-ApartBothWays = (a b : Seat) → AreApart a b → AreApart b a
+-- sharing no entry holds both ways
+abbrev pub UnsharedBothWays : Type 0
+UnsharedBothWays = (a b : Seat) → ShareNoEntry a b → ShareNoEntry b a

@@ -8,7 +8,7 @@ ghost use Rattle.ecf_core.specs.Drafted.{DraftIsJudged, RunIsDrafted};
 ghost use Rattle.ecf_core.specs.Laws.{CommitIsRight, EachCallIsLegal, EveryListOfEvents, ExtendKeeps, FewEntries, FinishEnds, FullExactlyWhere, JournalGrows, JournalIsLegal, LedgerIsSerial, NoWatchIsSerial, OneClaimed, OverOnlyWhere, OverWithRowsLeft, ReceiptsGrow, RowsAgree, StoreIsStore, ThreeStales, TicketsRise};
 ghost use Rattle.ecf_core.specs.Replies.{ClaimExactlyWhere, CommitExactlyWhere, HereExactlyWhere, PastLastAddsNothing, ReclaimFreesAll, RefusedChangesNothing, RefusedExactlyWhere, ReleaseExactlyWhere};
 ghost use Rattle.ecf_core.specs.Rounds.{RoundsChain};
-ghost use Rattle.ecf_core.specs.Seats.{ApartBothWays, CallKeepsApart, CallKeepsSeat, EachCallAddsOne, JoinKeepsApart, JoinKeepsSeats, SplitKeepsSeats};
+ghost use Rattle.ecf_core.specs.Seats.{UnsharedBothWays, CallKeepsUnshared, CallKeepsSeat, EachCallAddsOne, JoinKeepsUnshared, JoinKeepsSeats, SplitKeepsSeats};
 ghost use Rattle.ecf_core.specs.Watches.{CountsStayWithin};
 
 use ecf_laws::{run_keeps_store, run_stands, same_reads_same_run};
@@ -185,29 +185,29 @@ pub fn refused_changes_nothing()
     ensures { RefusedChangesNothing }
 {}
 
-/// A call leaves a seat apart from each other seat that it was apart from.
-pub fn call_keeps_apart()
-    ensures { CallKeepsApart }
+/// A call leaves a seat that shares no entry with another one so.
+pub fn call_keeps_unshared()
+    ensures { CallKeepsUnshared }
 {}
 
-/// A split gives two seats, apart from each other.
+/// A split gives two seats that share no entry.
 pub fn split_keeps_seats()
     ensures { SplitKeepsSeats }
 {}
 
-/// A join of two seats that are apart is a seat with the own entries of both, and has seen what both have.
+/// A join of two seats that share no entry is a seat with the own entries of both, and has seen what both have.
 pub fn join_keeps_seats()
     ensures { JoinKeepsSeats }
 {}
 
-/// A joined seat is apart from each seat that both were apart from.
-pub fn join_keeps_apart()
-    ensures { JoinKeepsApart }
+/// A joined seat shares no entry with a third with which neither did.
+pub fn join_keeps_unshared()
+    ensures { JoinKeepsUnshared }
 {}
 
-/// Being apart holds both ways.
-pub fn apart_both_ways()
-    ensures { ApartBothWays }
+/// Sharing no entry holds both ways.
+pub fn unshared_both_ways()
+    ensures { UnsharedBothWays }
 {}
 
 /// A round after a round is a round.
