@@ -20,7 +20,7 @@ use Rattle.ecf_core.specs.Legal.{AreLegal, IsHistory, IsHeld, NoneClaimed}
 use Rattle.ecf_core.specs.Calls.{claim, commit, commit_here, release, reclaim, finish, take_watch, with_transactions, extend, book_after}
 use Rattle.ecf_core.specs.Counts.{entries_of, most_entries, stales_of, given_tickets, placed_rows}
 use Rattle.ecf_core.specs.Drafted.{Judgement, IsJudged}
-use Rattle.ecf_core.specs.Core.{initial_core, core_after, entries_added, placings, schedule_book, Core, RowReads, act_of_hand}
+use Rattle.ecf_core.specs.Core.{initial_core, core_after, entries_added, placings, schedule_book, Core, RowReads, act_of_hand, act_of_take}
 
 -- with no watch, the serial run under watches is the serial run
 abbrev pub NoWatchIsSerial : Type 0
@@ -156,3 +156,7 @@ abbrev pub FullExactlyWhere : Type 0
 FullExactlyWhere = (c : Core) (d : RowReads) →
     ((act_of_hand c d).reply ≡ reply.Full ↔ MAX_QUEUED ≤ length c.queue) ×
     (length c.queue < MAX_QUEUED → (act_of_hand c d).queue ≡ c.queue ++ d ∷ [])
+
+-- nothing is taken from the queue exactly where it is empty
+abbrev pub EmptyExactlyWhere : Type 0
+EmptyExactlyWhere = (queue : List RowReads) → (act_of_take queue).reply ≡ reply.Empty ↔ queue ≡ []

@@ -1,5 +1,5 @@
 -- Watches: what they are shown of a transaction, how they vote on it, and what they tell.
-use Rattle.std.specs.Prelude.{◌≤◌, ℕ, zero, suc, ◌==◌, Bool, true, false, not, if◌then◌else◌, List, [], ◌∷◌, ◌++◌, Option, Some, None, slice_get, codes, decimal}
+use Rattle.std.specs.Prelude.{◌≡◌, ◌≤◌, length, map, All, ℕ, zero, suc, ◌==◌, Bool, true, false, not, if◌then◌else◌, List, [], ◌∷◌, ◌++◌, Option, Some, None, slice_get, codes, decimal}
 use Rattle.std.specs.List.{list_any}
 use Rattle.ecf_lang.specs.declared.tx.Tx.{Tx}
 use Rattle.ecf_lang.specs.declared.tx.TxCall.{TxCall}
@@ -74,6 +74,41 @@ show_all shown place (Some w ∷ ws) =
     let voted = turn w.spec w.count shown in
     let now : Watch = record { spec = w.spec; count = voted.count } in
     if voted.agrees then with_watch (Some now) (show_all shown (suc place) ws) else record { no = Some place; watches = Some now ∷ ws }
+
+-- how a watch votes; an empty place is no hindrance
+abbrev pub votes_yes : Shown → Option Watch → Bool
+votes_yes shown None = true
+votes_yes shown (Some w) = (turn w.spec w.count shown).agrees
+
+-- a watch after its vote
+abbrev pub after_vote : Shown → Option Watch → Option Watch
+after_vote shown None = None
+after_vote shown (Some w) = Some (record { spec = w.spec; count = (turn w.spec w.count shown).count })
+
+-- all watches vote yes, and all are left after their votes
+pub record AllYes (shown : Shown) (ws left : Watches) : Type 0 where
+  pub yes : All (λ w. votes_yes shown w ≡ true) ws
+  pub leaves : left ≡ map (after_vote shown) ws
+
+-- the watch at a place is the first that votes no: those before it and it are left after their votes, the others as they were
+pub record FirstNo (shown : Shown) (ws : Watches) (place : ℕ) (left : Watches) : Type 0 where
+  pub before : Watches
+  pub one : Option Watch
+  pub later : Watches
+  pub parts : ws ≡ before ++ one ∷ later
+  pub place_is : place ≡ length before
+  pub yes : All (λ w. votes_yes shown w ≡ true) before
+  pub no : votes_yes shown one ≡ false
+  pub leaves : left ≡ map (after_vote shown) before ++ after_vote shown one ∷ later
+
+-- no place is named where all watches vote yes, and else the first that votes no
+pub record VotesGo (shown : Shown) (ws : Watches) (votes : Votes) : Type 0 where
+  pub none : votes.no ≡ None → AllYes shown ws votes.watches
+  pub first : (place : ℕ) → votes.no ≡ Some place → FirstNo shown ws place votes.watches
+
+-- so the votes go
+abbrev pub FirstNoIsNamed : Type 0
+FirstNoIsNamed = (shown : Shown) (ws : Watches) → VotesGo shown ws (show_all shown 0 ws)
 
 -- the watches without the one at a place
 abbrev pub without_watch : ℕ → Watches → Watches

@@ -5,11 +5,11 @@
 ghost use Rattle.ecf_laws.specs.Laws.{RunKeepsStore, RunStands, SameReadsSameRun};
 ghost use Rattle.ecf_verdicts.specs.SerialLaws.{LegalWhenWhole};
 ghost use Rattle.ecf_core.specs.Drafted.{DraftIsJudged, RunIsDrafted};
-ghost use Rattle.ecf_core.specs.Laws.{CommitIsRight, EachCallIsLegal, EveryListOfEvents, ExtendKeeps, FewEntries, FinishEnds, FullExactlyWhere, JournalGrows, JournalIsLegal, LedgerIsSerial, NoWatchIsSerial, OneClaimed, OverOnlyWhere, OverWithRowsLeft, ReceiptsGrow, RowsAgree, StoreIsStore, ThreeStales, TicketsRise};
+ghost use Rattle.ecf_core.specs.Laws.{CommitIsRight, EachCallIsLegal, EmptyExactlyWhere, EveryListOfEvents, ExtendKeeps, FewEntries, FinishEnds, FullExactlyWhere, JournalGrows, JournalIsLegal, LedgerIsSerial, NoWatchIsSerial, OneClaimed, OverOnlyWhere, OverWithRowsLeft, ReceiptsGrow, RowsAgree, StoreIsStore, ThreeStales, TicketsRise};
 ghost use Rattle.ecf_core.specs.Replies.{ClaimExactlyWhere, CommitExactlyWhere, HereExactlyWhere, PastLastAddsNothing, ReclaimFreesAll, RefusedChangesNothing, RefusedExactlyWhere, ReleaseExactlyWhere};
 ghost use Rattle.ecf_core.specs.Rounds.{RoundsChain};
 ghost use Rattle.ecf_core.specs.Seats.{UnsharedBothWays, CallKeepsUnshared, CallKeepsSeat, EachCallAddsOne, JoinKeepsUnshared, JoinKeepsSeats, SplitKeepsSeats};
-ghost use Rattle.ecf_core.specs.Watches.{CountsStayWithin};
+ghost use Rattle.ecf_core.specs.Watches.{CountsStayWithin, FirstNoIsNamed};
 
 use ecf_laws::{run_keeps_store, run_stands, same_reads_same_run};
 use ecf_verdicts::legal_when_whole;
@@ -173,6 +173,16 @@ pub fn receipts_grow()
 /// A watch never counts more than its number.
 pub fn counts_stay_within()
     ensures { CountsStayWithin }
+{}
+
+/// No watch is named where all vote yes, and else the first that votes no.
+pub fn first_no_is_named()
+    ensures { FirstNoIsNamed }
+{}
+
+/// Nothing is taken from the queue exactly where it is empty.
+pub fn empty_exactly_where()
+    ensures { EmptyExactlyWhere }
 {}
 
 /// An event is refused exactly where it doesn't apply to what its actor holds.
