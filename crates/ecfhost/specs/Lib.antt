@@ -1,2 +1,3 @@
 pub mod FileShelf
+pub mod Program
 pub mod Stream
