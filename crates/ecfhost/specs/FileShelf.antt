@@ -54,6 +54,10 @@ abbrev pub IsAnswerTo : {S : Type 0} → SourceGhosts S → Result S Error → �
 IsAnswerTo {S} told (Ok source) most answer = (after : S) × IsContentOf told source after most answer
 IsAnswerTo told (Err error) most answer = answer ≡ Err (fault_of_kind (error_kind error))
 
+-- of what may come of one opening, this is answered
+abbrev pub IsOneFetch : {S : Type 0} → SourceGhosts S → (Result S Error → Type 0) → ℕ → Result (Vec ℕ Global) Fetch → Type 0
+IsOneFetch {S} told may_open most answer = (opened : Result S Error) × may_open opened × IsAnswerTo told opened most answer
+
 -- a shelf of files: what opens them, and its counts
 pub record OpeningShelf (O : Type 0) : Type 0 where
   pub opener : O

@@ -1,5 +1,5 @@
 -- What the program makes of its arguments, and how it ends.
-use Rattle.std.specs.Prelude.{◌≡◌, ◌≢◌, ℕ, List, [], drop, map, Result, Ok, Err, Vec, String, string_bytes}
+use Rattle.std.specs.Prelude.{◌≡◌, ◌≢◌, ℕ, [], drop, map, Result, Ok, Err, Vec, String, string_bytes}
 use Rattle.std.specs.IoError.{error_kind}
 use Rattle.std.specs.Vec.Iter.{into_iter_items}
 use Rattle.std.specs.declared.alloc.AllocError.{AllocError}
@@ -14,6 +14,7 @@ use Rattle.ecf_host.specs.World.{World}
 -- what came of taking the arguments, and the words that are made of it
 abbrev pub Arguments : Type 0
 Arguments = Result (IntoIter (String Global) Global) Error
+
 abbrev pub Words : Type 0
 Words = Result (Vec (String Global) Global) AllocError
 

@@ -26,11 +26,9 @@ pub fn run<R, F: Shelf, S: Source, K: Sink, N: Sink>(
     out: &mut K,
     note: &mut N,
 ) -> ExitCode
-    ensures {
-        let before = world F.Shelf S.Source K.Sink N.Sink shelf.old input.old out.old note.old in
+    ensures { let before = world F.Shelf S.Source K.Sink N.Sink shelf.old input.old out.old note.old in
         let after = world F.Shelf S.Source K.Sink N.Sink shelf.new input.new out.new note.new in
-        IsEndOf args before after (exit_status result)
-    }
+        IsEndOf args before after (exit_status result) }
 {
     match words_of(alloc, args) {
         Ok(words) => host(rt, alloc, words.as_slice(), shelf, input, out, note).into(),

@@ -4,7 +4,7 @@ ghost use Rattle.std.specs.Prelude.{◌≡◌, ℕ, ◌≤◌, ◌↔◌, List, 
 ghost use Rattle.std.specs.declared.io.Error.{Error};
 ghost use Rattle.std.specs.IoError.{error_kind};
 ghost use Rattle.ecf_edge.specs.Shelf.{faults_after_fetch, long_answers_after_fetch, absences_after_fetch};
-ghost use Rattle.ecfhost.specs.FileShelf.{fresh_shelf, counts_after, fault_of_kind, IsContentOf, IsAnswerTo};
+ghost use Rattle.ecfhost.specs.FileShelf.{fresh_shelf, counts_after, fault_of_kind, IsContentOf, IsAnswerTo, IsOneFetch};
 
 use crate::stream::Input;
 use ecf_edge::{Fetch, Shelf, Source, count_up, read_all};
@@ -78,7 +78,7 @@ impl<O: Opener> Shelf for FileShelf<O> {
     ghost absences = { λ s. s.counts.absences };
 
     fn fetch(&mut self, alloc: Global, name: &str, most: usize) -> Result<Vec<u8>, Fetch>
-        ensures answer { (opened : Result O.Opened Error) × O.opens self.old.opener self.new.opener name.now opened × IsAnswerTo O.Opened.Source opened most result }
+        ensures once { IsOneFetch O.Opened.Source (O.opens self.old.opener self.new.opener name.now) most result }
         ensures counts { self.new.counts ≡ counts_after self.old.counts result }
 
         ensures bound { IfOk result (λ v. length v.items ≤ most) }
