@@ -9,7 +9,7 @@ mod tests;
 mod threads;
 mod tools;
 
-pub use rounds::{Outcome, round, run};
+pub use rounds::{AfterRound, round, run};
 pub use sum::{Entry, Sum};
 pub use threads::crew;
 pub use tools::{Desk, Queue, Seated, SmallNumbers, Tools, add};

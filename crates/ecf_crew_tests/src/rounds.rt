@@ -19,7 +19,7 @@ use std::thread::Threads;
 
 /// What is there after a round.
 #[derive(Drop)]
-pub struct Outcome<L: Ledger> {
+pub struct AfterRound<L: Ledger> {
     /// The sum, with its history.
     pub sum: Sum<L>,
     /// The last seat, which has the entries of all.
@@ -38,7 +38,7 @@ pub fn round<L: Ledger + Send + Sync, R: Threads + Wait + Sync>(
     share: Share<L>,
     threads: u64,
     items: u64,
-) -> Result<Outcome<L>, (Sum<L>, AllocError)>
+) -> Result<AfterRound<L>, (Sum<L>, AllocError)>
     requires whole { share.parts ≡ L.parts }
     requires threads { (0 < threads) × (threads < share.parts) × (threads ≤ WHOLE_SHARE) }
 
@@ -79,7 +79,7 @@ pub fn round<L: Ledger + Send + Sync, R: Threads + Wait + Sync>(
     sum.count(&mut share);
     let closing = Snapshot::of(&pass);
     match queue.close(rt, alloc, pass) {
-        Ok(left) => Ok(Outcome {
+        Ok(left) => Ok(AfterRound {
             sum,
             seat,
             left,
@@ -108,7 +108,7 @@ fn round_from<L: Ledger + Send + Sync, R: Threads + Wait + Sync>(
     let _reply = sum.add(first, &mut share);
     match round(rt, alloc, sum, share, threads, items) {
         Ok(
-            Outcome {
+            AfterRound {
                 sum,
                 seat: _,
                 left,
