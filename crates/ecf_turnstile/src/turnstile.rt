@@ -182,7 +182,17 @@ impl<B: History + Drop> Turnstile<B> {
 }
 
 impl<'a, B: History + Drop> Turn<'a, B> {
+    ghost use Rattle.std.specs.Borrow.{sem};
+    ghost use Rattle.ecf_turnstile.specs.Lending.{LendsValue};
     ghost use Rattle.ecf_turnstile.specs.Turnstiles.{name_of, first_value, IsSeatOf, HasTurnOf};
+
+    /// Lends the value. A caller that goes by the field has no loan to follow in its proof.
+    pub fn value(&mut self) -> &mut B
+        ensures* lends { sem 𝓛 (LendsValue B.row B.Opening.row B.Entry.row B.History self.entry result) }
+        ensures value { result.now ≡ self.old.value }
+    {
+        &mut self.value
+    }
 
     /// Puts the value back and passes the turn on. The value's opening is as it was, and its history grew by one entry at
     /// most, which is then the seat's own.
