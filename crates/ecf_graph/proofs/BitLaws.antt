@@ -7,18 +7,12 @@ use Rattle.std.proofs.lemmas.Nat.{and_le_l}
 use Rattle.std.proofs.lemmas.List.{get_or_past}
 use Rattle.std.proofs.Math.Nat.{div-add-mod}
 use Rattle.std.proofs.lemmas.Nat.Bits.{bit_at-zero, shr_and_one, bit_at_or, bit_at-lt, bit_at_set_same, bit_at_set_other, bit_at_clear_same, bit_at_clear_other, bit_at_and, bit_at-trailing_zeros}
+use Rattle.ecf_graph.specs.RowLemmas.{member_past}
 use Rattle.ecf_graph.specs.Rows.{is_member}
 
 pub member_same : (a b : List ℕ) → ((k : ℕ) → get_or a k 0 ≡ get_or b k 0) → (i : ℕ) → is_member a i ≡ is_member b i
 unfolding is_member
 member_same a b e i = ap (λ w. bit_at w (i % 64) == 1) (e (i / 64))
-
-pub member_past : (a : List ℕ) (i : ℕ) → length a ≤ i / 64 → is_member a i ≡ false
-unfolding is_member
-member_past a i h = ap (λ w. bit_at w (i % 64) == 1) (get_or_past a (i / 64) 0 h) ∙ ap (λ b. b == 1) (bit_at-zero (i % 64))
-
-pub member_none : (i : ℕ) → is_member [] i ≡ false
-member_none i = member_past [] i (omega arith)
 
 pub member_test : (a : List ℕ) (i w : ℕ) → w ≡ get_or a (i / 64) 0 → (bit_and (w / 2 ^ (i % 64)) 1 == 1) ≡ is_member a i
 unfolding is_member

@@ -2,12 +2,8 @@
 use Rattle.std.proofs.Common.{◌≡◌, ℕ, zero, suc, ◌+◌, ◌≤◌, Bool, true, false, List, [], ◌∷◌, ◌++◌, length, refl, sym, ap, ◌∙◌, add-one}
 use Rattle.std.proofs.lemmas.List.{append-nil, get_or_past}
 use Rattle.ecf_graph.specs.Rows.{is_member}
-use Rattle.ecf_graph.proofs.BitLaws.{member_none}
+use Rattle.ecf_graph.specs.RowLemmas.{member_none}
 use Rattle.ecf_graph.specs.Rows.{is_in_row, numbers_below}
-
-pub in_row_past : (rows : List (List ℕ)) (k i : ℕ) → length rows ≤ k → is_in_row rows k i ≡ false
-unfolding is_in_row
-in_row_past rows k i h = ap (λ r. is_member r i) (get_or_past rows k [] h) ∙ member_none i
 
 -- an empty row at the end changes nothing
 pub in_row_more : (rows : List (List ℕ)) (r : List ℕ) → ((i : ℕ) → is_member r i ≡ false) → (k i : ℕ) → is_in_row (rows ++ r ∷ []) k i ≡ is_in_row rows k i

@@ -3,4 +3,5 @@ pub mod PathLemmas
 pub mod Paths
 pub mod Placement
 pub mod PlacementLemmas
+pub mod RowLemmas
 pub mod Rows

@@ -3,7 +3,7 @@ use Rattle.std.proofs.lemmas.Bool.{both_ways}
 use Rattle.std.proofs.lemmas.List.{get_or_default}
 use Rattle.ecf_graph.specs.Rows.{is_member}
 use Rattle.ecf_graph.specs.Rows.{is_in_row}
-use Rattle.ecf_graph.proofs.RowLaws.{in_row_past}
+use Rattle.ecf_graph.specs.RowLemmas.{in_row_past}
 use Rattle.ecf_graph.proofs.placement.has_before.Goals as goal
 
 pub returns-then-at-rows-clause-yes : goal.returns-then-at-rows-clause-yes

@@ -2,7 +2,7 @@ use Rattle.std.proofs.Common.{◌≡◌, get_or, [], sym, ap, ◌∙◌, arith}
 use Rattle.std.proofs.lemmas.List.{get_or_default}
 use Rattle.ecf_graph.specs.Rows.{is_member}
 use Rattle.ecf_graph.specs.Rows.{is_in_row}
-use Rattle.ecf_graph.proofs.RowLaws.{in_row_past}
+use Rattle.ecf_graph.specs.RowLemmas.{in_row_past}
 use Rattle.ecf_graph.proofs.rows.row_contains.Goals as goal
 
 pub returns-then-at-rows : goal.returns-then-at-rows

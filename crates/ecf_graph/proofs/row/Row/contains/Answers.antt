@@ -1,7 +1,8 @@
 use Rattle.std.proofs.Common.{sym, ◌∙◌, arith}
 use Rattle.std.proofs.lemmas.Bool.{le-ltb}
 use Rattle.std.proofs.lemmas.Grind.{get_or_default_zero}
-use Rattle.ecf_graph.proofs.BitLaws.{member_past, member_test}
+use Rattle.ecf_graph.proofs.BitLaws.{member_test}
+use Rattle.ecf_graph.specs.RowLemmas.{member_past}
 use Rattle.ecf_graph.proofs.row.Row.contains.Goals as goal
 
 pub returns-then-at-len : goal.returns-then-at-len

@@ -1,4 +1,4 @@
-use Rattle.ecf_graph.proofs.BitLaws.{member_none}
+use Rattle.ecf_graph.specs.RowLemmas.{member_none}
 use Rattle.ecf_graph.proofs.row.Row.new.Goals as goal
 
 pub returns : goal.returns

@@ -1,0 +1,4 @@
+pub mod Laws
+pub mod Numbering
+pub mod Pairs
+pub mod Seen
