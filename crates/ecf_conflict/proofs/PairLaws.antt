@@ -7,7 +7,7 @@ use Rattle.ecf_lang.specs.declared.run.Step.{Step}
 use Rattle.ecf_verdicts.specs.Before.{before}
 use Rattle.ecf_verdicts.specs.Traces.{members}
 use Rattle.ecf_verdicts.specs.BeforeLemmas.{before_self}
-use Rattle.ecf_verdicts.specs.ListLemmas.{In, Each_at, Each_from, Has_weaker, Has_from_any, any_from_Has, Has_in, In_from_Contains, Contains_from_In, Any_from_Has, Has_from_Any}
+use Rattle.ecf_verdicts.specs.ListLemmas.{In, Each_at, Each_from, Has_weaker, Has_from_any, any_from_Has, In_from_Contains, Contains_from_In, Any_from_Has, Has_from_Any}
 use Rattle.ecf_verdicts.specs.Laws.{MembersAre}
 use Rattle.ecf_verdicts.specs.RisingLemmas.{Rising, rising_from}
 use Rattle.ecf_precedence.specs.EndLemmas.{Has_snoc, Has_front, Has_last}

@@ -30,9 +30,7 @@ fn add_pairs(
     members: &[u16],
     i: u16,
 ) -> Result<(), AllocError>
-    ensures {
-        OnOk result (pairs.new.items ≡ pairs.old.items ++ pairs_from (λ a b. not (a == b) && is_in_row rows.now b a) members.now i)
-    }
+    ensures { OnOk result (pairs.new.items ≡ pairs.old.items ++ pairs_from (λ a b. not (a == b) && is_in_row rows.now b a) members.now i) }
 {
     for j in members {
         if is_pair(rows, i, *j) {

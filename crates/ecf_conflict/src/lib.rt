@@ -8,12 +8,11 @@ mod members;
 mod numbering;
 mod seen;
 
+use ecf_verdicts::members_are;
 pub use edges::edges_of;
 pub use members::members_of;
 pub use numbering::number_cell;
 pub use seen::rows_before;
-
-use ecf_verdicts::members_are;
 
 /// The numbers below a bound that have steps are the members.
 pub fn numbers_are_members()

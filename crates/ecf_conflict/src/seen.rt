@@ -55,10 +55,8 @@ fn put_step(
 impl Seen {
     /// Reads one step more.
     fn read(&mut self, step: &Step) -> Result<(), AllocError>
-        ensures {
-            (t : List Step) → IsSeen t self.old.cells.keys self.old.touched.items self.old.written.items self.old.earlier.items →
-            OnOk result (IsSeen (t ++ step.now ∷ []) self.new.cells.keys self.new.touched.items self.new.written.items self.new.earlier.items)
-        }
+        ensures { (t : List Step) → IsSeen t self.old.cells.keys self.old.touched.items self.old.written.items self.old.earlier.items →
+            OnOk result (IsSeen (t ++ step.now ∷ []) self.new.cells.keys self.new.touched.items self.new.written.items self.new.earlier.items) }
     {
         one_step_more();
         let inv = step.inv as usize;

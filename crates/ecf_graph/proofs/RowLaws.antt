@@ -1,6 +1,6 @@
 -- Rows in a list.
-use Rattle.std.proofs.Common.{◌≡◌, ℕ, zero, suc, ◌+◌, ◌≤◌, Bool, true, false, List, [], ◌∷◌, ◌++◌, length, refl, sym, ap, ◌∙◌, add-one}
-use Rattle.std.proofs.lemmas.List.{append-nil, get_or_past}
+use Rattle.std.proofs.Common.{◌≡◌, ℕ, zero, suc, ◌+◌, Bool, true, false, List, [], ◌∷◌, ◌++◌, refl, sym, ◌∙◌, add-one}
+use Rattle.std.proofs.lemmas.List.{append-nil}
 use Rattle.ecf_graph.specs.Rows.{is_member}
 use Rattle.ecf_graph.specs.RowLemmas.{member_none}
 use Rattle.ecf_graph.specs.Rows.{is_in_row, numbers_below}

@@ -1,0 +1,5 @@
+pub mod ClosureLaws
+pub mod FirstLaws
+pub mod OrderLaws
+pub mod StepLaws
+pub mod WatchLaws
