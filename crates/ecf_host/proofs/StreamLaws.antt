@@ -7,18 +7,19 @@ use Rattle.std.specs.declared.alloc.Global.{Global}
 use Rattle.ecf_edge.specs.Source.{whole_of}
 use Rattle.ecf_edge.specs.declared.source.Ending.{Ending}
 use Rattle.ecf_edge.specs.declared.source.Ending.TheVariants as ending
+use Rattle.ecf_lang.specs.declared.limits.TheConstants.{MAX_LINE_BYTES}
 use Rattle.ecf_stream.specs.OneLine.{SaysNothing}
 use Rattle.ecf_lines.specs.OneLine.{IsOneLine}
 
 -- a line is short
-short : (typed : Typed) (bytes : List ℕ) (tx : Tx) → IsOneLine typed bytes tx → length bytes ≤ 4097
+short : (typed : Typed) (bytes : List ℕ) (tx : Tx) → IsOneLine typed bytes tx → length bytes ≤ MAX_LINE_BYTES + 1
 short typed bytes tx one =
-    let short : length one.line ≤ 4096 = one.line_is.short in
+    let short : length one.line ≤ MAX_LINE_BYTES = one.line_is.short in
     let long = length-append one.line (10 ∷ []) in
     let same = ap length one.line_is.ended in omega arith
 
 -- what is longer says nothing
-pub long_says_none : (typed : Typed) (left : Option (List ℕ)) (most : ℕ) → 4097 ≤ most → IfSome left (λ bytes. most < length bytes) → IfSome left (λ bytes. (tx : Tx) → ¬ IsOneLine typed bytes tx)
+pub long_says_none : (typed : Typed) (left : Option (List ℕ)) (most : ℕ) → MAX_LINE_BYTES + 1 ≤ most → IfSome left (λ bytes. most < length bytes) → IfSome left (λ bytes. (tx : Tx) → ¬ IsOneLine typed bytes tx)
 long_says_none typed None most enough long = tt
 long_says_none typed (Some bytes) most enough long = λ tx one. let few = short typed bytes tx one in absurd (omega arith)
 
