@@ -53,7 +53,7 @@ within_most n (row.Done m) w = w
 below : (a b : ℕ) → nat_lt a b ≡ true → a < b
 below a b e = ltb-true a b e
 
-held_is : (u c s t n : ℕ) → stales_under t (row.Claimed u c s) ≡ Some n → (u ≡ t) × (s ≡ n)
+pub held_is : (u c s t n : ℕ) → stales_under t (row.Claimed u c s) ≡ Some n → (u ≡ t) × (s ≡ n)
 held_is u c s t n e = go (u == t) refl e
   where
     go : (b : Bool) → (u == t) ≡ b → cond b (Some s) None ≡ Some n → (u ≡ t) × (s ≡ n)
@@ -164,7 +164,7 @@ range_more : (a n : ℕ) → range_with_len a (suc n) ≡ range_with_len a n ++ 
 range_more a zero = ap (λ x. x ∷ []) (omega arith)
 range_more a (suc n) = ap (λ l. a ∷ l) (range_more (a + 1) n ∙ ap (λ x. range_with_len (a + 1) n ++ x ∷ []) (omega arith))
 
-unheld : (t : ℕ) (x : RowState) (n : ℕ) → is_claimed x ≡ false → stales_under t x ≡ Some n → ⊥
+pub unheld : (t : ℕ) (x : RowState) (n : ℕ) → is_claimed x ≡ false → stales_under t x ≡ Some n → ⊥
 unheld t x n idle held = false_not_true idle (held_claimed t x n held)
 
 -- a row is no longer claimed
@@ -184,12 +184,12 @@ ticketed_let_go es e rows tickets r x calm idle inside out t = record {
       | inr f ↦ (f, ap (stales_under u) (sym (get_or-set_other rows r q x (row.Free 0) f)) ∙ h)
     ]
 
-claimed_is : (t : ℕ) (x : RowState) → has_claim_left x ≡ true → (c : ℕ) × (as_claimed t x ≡ row.Claimed t c 0)
+pub claimed_is : (t : ℕ) (x : RowState) → has_claim_left x ≡ true → (c : ℕ) × (as_claimed t x ≡ row.Claimed t c 0)
 claimed_is t (row.Free c) e = (suc c, refl)
 claimed_is t (row.Claimed u c s) e = false_not_true refl e
 claimed_is t (row.Done m) e = false_not_true refl e
 
-staler_is : (t n : ℕ) (x : RowState) → stales_under t x ≡ Some n → (c : ℕ) × (as_stale x ≡ row.Claimed t c (suc n))
+pub staler_is : (t n : ℕ) (x : RowState) → stales_under t x ≡ Some n → (c : ℕ) × (as_stale x ≡ row.Claimed t c (suc n))
 staler_is t n (row.Free c) e = none_not_some e
 staler_is t n (row.Claimed u c s) e = let h = held_is u c s t n e in (c, ap (λ z. row.Claimed z c (suc s)) h.0 ∙ ap (λ z. row.Claimed t c (suc z)) h.1)
 staler_is t n (row.Done m) e = none_not_some e
@@ -268,7 +268,7 @@ ticketed_stale es rows tickets r c k e x is_s idle few held inside is t = record
     same : (u : ℕ) → e.ticket ≢ u → stales_of u (es ++ e ∷ []) ≡ stales_of u es
     same u d = counted u false (not_same e.ticket u d)
 
-freed_out : (x : RowState) → is_claimed (as_freed x) ≡ false
+pub freed_out : (x : RowState) → is_claimed (as_freed x) ≡ false
 freed_out (row.Free c) = refl
 freed_out (row.Claimed t c s) = refl
 freed_out (row.Done m) = refl

@@ -15,3 +15,5 @@ pub mod ReplyLaws
 pub mod RefusalLaws
 pub mod WatchLaws
 pub mod DraftedLaws
+pub mod RoundLaws
+pub mod DueLaws

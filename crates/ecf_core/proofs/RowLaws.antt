@@ -49,7 +49,7 @@ so_far txs rows journal agree = record {
   first_ones = λ s. (let split = agree.split s in sym (take_at (of_submitter txs s journal) split.rest (length (of_submitter txs s journal)) refl) ∙ ap (λ l. take (length (of_submitter txs s journal)) l) (sym split.parts));
 }
 
-state_map : (txs : List Tx) (r : ℕ) → state (map (λ _. row.Free 0) txs) r ≡ row.Free 0
+pub state_map : (txs : List Tx) (r : ℕ) → state (map (λ _. row.Free 0) txs) r ≡ row.Free 0
 state_map [] r = refl
 state_map (t ∷ txs) zero = refl
 state_map (t ∷ txs) (suc r) = state_map txs r

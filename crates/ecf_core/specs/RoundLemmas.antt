@@ -5,7 +5,7 @@ use Rattle.std.proofs.lemmas.List.Elements.{All-append}
 use Rattle.ecf_core.specs.declared.book.LogEntry.{LogEntry}
 use Rattle.ecf_core.specs.Rounds.{MayAdd, AreDue, IsRound}
 
-due_after : (earlier es fs : List LogEntry) → AreDue earlier es → AreDue (earlier ++ es) fs → AreDue earlier (es ++ fs)
+pub due_after : (earlier es fs : List LogEntry) → AreDue earlier es → AreDue (earlier ++ es) fs → AreDue earlier (es ++ fs)
 due_after earlier [] fs h k = subst (λ l. AreDue l fs) (append-nil earlier) k
 due_after earlier (e ∷ es) fs h k = (h.0, due_after (earlier ++ e ∷ []) es fs h.1 (subst (λ l. AreDue l fs) (sym (append_assoc earlier (e ∷ []) es)) k))
 

@@ -1,8 +1,13 @@
 -- What workers and monitors may add to a history in a round.
-use Rattle.std.specs.Prelude.{◌≡◌, ℕ, List, [], ◌∷◌, ◌++◌, All, Any, ⊤}
+use Rattle.std.specs.Prelude.{◌≡◌, ◌≤◌, ℕ, List, [], ◌∷◌, ◌++◌, All, Any, ⊤}
+use Rattle.ecf_lang.specs.declared.limits.TheConstants.{MAX_STALES}
 use Rattle.ecf_core.specs.declared.book.LogEntry.{LogEntry}
 use Rattle.ecf_core.specs.declared.book.LogWhat.{LogWhat}
 use Rattle.ecf_core.specs.declared.book.LogWhat.TheVariants as log
+use Rattle.ecf_core.specs.declared.event.Event.{Event}
+use Rattle.ecf_core.specs.Book.{Opening, after}
+use Rattle.ecf_core.specs.Core.{initial_core, entries_added}
+use Rattle.ecf_core.specs.Legal.{IsHistory, IsHeld}
 
 -- workers and monitors claim rows and place them; they give rows back, to be placed at the end, only where they may give up
 abbrev pub MayAdd : Type 0 → LogWhat → Type 0
@@ -56,3 +61,13 @@ pub record IsRound (may : Type 0) (before later : List LogEntry) : Type 0 where
 -- a round after a round is a round, where nothing may be given up
 abbrev pub RoundsChain : Type 0
 RoundsChain = (first second third : List LogEntry) → IsRound ⊥ first second → IsRound ⊥ second third → IsRound ⊥ first third
+
+-- a row with as many stale commits under a ticket as there may be has the last one of them in the history
+abbrev pub LastStaleIsLogged : Type 0
+LastStaleIsLogged = (o : Opening) (es : List LogEntry) → IsHistory o es → (r ticket n : ℕ) →
+    IsHeld (after o es) r ticket n → MAX_STALES ≤ n → HasLastStale es r ticket
+
+-- whatever events come, a row is run on the present store only after its last stale commit
+abbrev pub EventsAreDue : Type 0
+EventsAreDue = (o : Opening) (es : List LogEntry) (events : List Event) → IsHistory o es →
+    AreDue es (entries_added o (initial_core (after o es)) events)

@@ -7,7 +7,7 @@ ghost use Rattle.ecf_verdicts.specs.SerialLaws.{LegalWhenWhole};
 ghost use Rattle.ecf_core.specs.Drafted.{DraftIsJudged, RunIsDrafted};
 ghost use Rattle.ecf_core.specs.Laws.{CommitIsRight, EachCallIsLegal, EmptyExactlyWhere, EveryListOfEvents, ExtendKeeps, FewEntries, FinishEnds, FullExactlyWhere, JournalGrows, JournalIsLegal, LedgerIsSerial, NoWatchIsSerial, OneClaimed, OverOnlyWhere, OverWithRowsLeft, ReceiptsGrow, RowsAgree, StoreIsStore, ThreeStales, TicketsRise};
 ghost use Rattle.ecf_core.specs.Replies.{ClaimExactlyWhere, CommitExactlyWhere, HereExactlyWhere, PastLastAddsNothing, ReclaimFreesAll, RefusedChangesNothing, RefusedExactlyWhere, ReleaseExactlyWhere};
-ghost use Rattle.ecf_core.specs.Rounds.{RoundsChain};
+ghost use Rattle.ecf_core.specs.Rounds.{EventsAreDue, LastStaleIsLogged, RoundsChain};
 ghost use Rattle.ecf_core.specs.Seats.{UnsharedBothWays, CallKeepsUnshared, CallKeepsSeat, EachCallAddsOne, JoinKeepsUnshared, JoinKeepsSeats, SplitKeepsSeats};
 ghost use Rattle.ecf_core.specs.Watches.{CountsStayWithin, FirstNoIsNamed};
 
@@ -223,4 +223,14 @@ pub fn unshared_both_ways()
 /// A round after a round is a round.
 pub fn rounds_chain()
     ensures { RoundsChain }
+{}
+
+/// A row with as many stale commits under a ticket as there may be has the last one of them in the history.
+pub fn last_stale_is_logged()
+    ensures { LastStaleIsLogged }
+{}
+
+/// Whatever events come, a row is run on the present store only after its last stale commit.
+pub fn events_are_due()
+    ensures { EventsAreDue }
 {}
