@@ -1,7 +1,7 @@
 //! The top call over objects in memory.
 
 use crate::host;
-use ecf_edge::{MemShelf, MemSink, MemSource};
+use ecf_edge::{MemShelf, MemSink, MemSource, Shelf, Sink, Source};
 use ecf_lang::limits::MAX_CONTRACT_BYTES;
 use std::alloc::{AllocError, Global};
 
@@ -48,28 +48,51 @@ fn padded(alloc: Global, text: &str, blanks: usize) -> Result<Vec<u8>, AllocErro
     Ok(bytes)
 }
 
-// Calls `host`. It has no clauses, so nothing that is proved of a test carries those of `host`.
-fn called(rt: &HostRuntime, file: &str, case: Case) -> Result<Left, AllocError> {
-    let alloc = rt.alloc();
-    let step = case.step.max(1);
-    let words = vec![in alloc;
+// Calls `host` over any objects. It has no clauses, so nothing that is proved of a test carries those of `host`.
+fn status_of<F: Shelf, S: Source, K: Sink, N: Sink>(
+    rt: &HostRuntime,
+    words: &[String],
+    shelf: &mut F,
+    input: &mut S,
+    out: &mut K,
+    note: &mut N,
+) -> u8 {
+    host(rt, rt.alloc(), words, shelf, input, out, note)
+}
+
+fn run_words(alloc: Global, file: &str) -> Result<Vec<String>, AllocError> {
+    Ok(vec![in alloc;
         String::from_str(alloc, "run")?,
         String::from_str(alloc, file)?,
-    ]?;
-    let files = vec![in alloc;
-        (
-            String::from_str(alloc, "c.ecf")?,
-            padded(alloc, case.contract, case.contract_blanks)?
-        ),
-    ]?;
-    let mut shelf = MemShelf::new(files, failing(alloc, case.fetch)?);
+    ]?)
+}
+
+fn shelf_of(alloc: Global, case: Case) -> Result<MemShelf, AllocError> {
+    let contract = padded(alloc, case.contract, case.contract_blanks)?;
+    let files = vec![in alloc; (String::from_str(alloc, "c.ecf")?, contract)]?;
+    Ok(MemShelf::new(files, failing(alloc, case.fetch)?))
+}
+
+fn source_of(alloc: Global, case: Case) -> Result<MemSource, AllocError> {
     let bytes = Vec::from_slice(alloc, case.stream.as_bytes())?;
-    let mut input = MemSource::new(bytes, step, failing(alloc, case.read)?);
-    let mut out = MemSink::new(alloc, step, failing(alloc, case.write)?);
-    let mut note = MemSink::new(alloc, step, failing(alloc, case.note)?);
-    let status = host(
+    let fails = failing(alloc, case.read)?;
+    Ok(MemSource::new(bytes, case.step.max(1), fails))
+}
+
+fn sink_of(alloc: Global, step: usize, failing_write: u64) -> Result<MemSink, AllocError> {
+    let fails = failing(alloc, failing_write)?;
+    Ok(MemSink::new(alloc, step.max(1), fails))
+}
+
+fn called(rt: &HostRuntime, file: &str, case: Case) -> Result<Left, AllocError> {
+    let alloc = rt.alloc();
+    let words = run_words(alloc, file)?;
+    let mut shelf = shelf_of(alloc, case)?;
+    let mut input = source_of(alloc, case)?;
+    let mut out = sink_of(alloc, case.step, case.write)?;
+    let mut note = sink_of(alloc, case.step, case.note)?;
+    let status = status_of(
         rt,
-        alloc,
         words.as_slice(),
         &mut shelf,
         &mut input,
