@@ -152,8 +152,10 @@ impl Monitor {
     /// Takes one step more.
     fn take_step(&mut self, step: &Step) -> Result<(), AllocError>
         requires { self.old.count + 1 < 4294967296 }
-        ensures watched { (e : List Step) → IsWatched e self.old.cells.keys self.old.writers.items self.old.readers.items self.old.rows.items self.old.count self.old.first →
-            OnOk result (IsWatched (step.now ∷ e) self.new.cells.keys self.new.writers.items self.new.readers.items self.new.rows.items self.new.count self.new.first) }
+        ensures watched { (e : List Step) →
+            IsWatched e self.old.cells.keys self.old.writers.items self.old.readers.items self.old.rows.items self.old.count self.old.first →
+            OnOk result (IsWatched (step.now ∷ e) self.new.cells.keys self.new.writers.items self.new.readers.items
+            self.new.rows.items self.new.count self.new.first) }
         ensures seen { (e : List Step) → HasSeen e self.old.seen self.old.above → OnOk result (HasSeen (step.now ∷ e) self.new.seen self.new.above) }
         ensures count { OnOk result (self.new.count ≡ self.old.count + 1) }
     {
