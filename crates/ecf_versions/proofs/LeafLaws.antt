@@ -1,7 +1,7 @@
 -- A leaf's cells: where one is found, and what a write makes of them.
-use Rattle.std.proofs.Common.{◌≡◌, ℕ, zero, suc, ◌+◌, ◌<◌, ◌≤◌, List, [], ◌∷◌, ◌++◌, length, map, take, drop, set, get_or, All, Some, None, unwrap_or, refl, ap, sym, ◌∙◌, subst, arith, Ordering, Less, Equal, Greater, is_eq, cond, Bool, true, false, true≢false}
+use Rattle.std.proofs.Common.{◌≡◌, ℕ, zero, suc, ◌+◌, ◌<◌, ◌≤◌, [], ◌∷◌, ◌++◌, length, take, drop, set, get_or, Some, unwrap_or, refl, ap, sym, ◌∙◌, subst, arith, Ordering, Less, Equal, Greater, is_eq, cond, Bool, true, false, true≢false}
 use Rattle.std.specs.Ordering.{match_ordering}
-use Rattle.std.specs.List.{AllByRecursion, slice_get, remove, insert}
+use Rattle.std.specs.List.{AllByRecursion, remove, insert}
 use Rattle.std.specs.List.Sorted.{IsStrictlySortedBy}
 use Rattle.std.specs.Map.{keys_of}
 use Rattle.std.specs.BTreeMap.{is_at}
@@ -9,7 +9,7 @@ use Rattle.std.proofs.Math.Numerals.{add-one}
 use Rattle.std.proofs.Math.ListN.{get_or-map}
 use Rattle.std.proofs.lemmas.Option.{get_or_from_slice_get, slice_get_within}
 use Rattle.std.proofs.lemmas.List.{length-map, length-take, length-drop, take-append-drop}
-use Rattle.std.proofs.lemmas.List.Elements.{All-nil, All-cons, All-head, All-tail, All-map}
+use Rattle.std.proofs.lemmas.List.Elements.{All-nil, All-cons, All-head, All-tail}
 use Rattle.ecf_lang.specs.declared.cell.Cell.{Cell}
 use Rattle.ecf_lang.specs.Store.{Cells, IsRising, cell_cmp, find_cell, read, put}
 use Rattle.ecf_lang.specs.Store.{set as set_cell}

@@ -1,5 +1,5 @@
 -- Cells below, above and not below one another.
-use Rattle.std.proofs.Common.{◌≡◌, Bool, true, false, true≢false, refl, ap, sym, ◌∙◌, Ordering, Less, Equal, Greater, is_lt, is_eq}
+use Rattle.std.proofs.Common.{◌≡◌, true, false, true≢false, refl, ap, sym, ◌∙◌, Ordering, Less, Equal, Greater, is_lt, is_eq}
 use Rattle.std.specs.Ordering.{ordering_reverse}
 use Rattle.ecf_lang.specs.declared.cell.Cell.{Cell}
 use Rattle.ecf_lang.specs.Store.{cell_cmp}

@@ -1,16 +1,13 @@
 -- Rows of pages: where a cell is read, and what a write in one page makes of the row.
-use Rattle.std.proofs.Common.{◌≡◌, ℕ, zero, suc, ◌+◌, ◌<◌, ◌≤◌, ◌⊎◌, inl, inr, Bool, true, false, [], ◌∷◌, ◌++◌, length, All, List, refl, ap, sym, ◌∙◌, subst, append_assoc, arith, Less}
-use Rattle.std.proofs.lemmas.List.{append-nil, length-append}
+use Rattle.std.proofs.Common.{◌≡◌, ℕ, ◌⊎◌, inl, inr, [], ◌∷◌, ◌++◌, All, List, refl, ap, sym, ◌∙◌, subst, append_assoc, Less}
 use Rattle.std.proofs.lemmas.List.Elements.{All-nil, All-cons, All-head, All-tail, All-append, All-weaker}
 use Rattle.ecf_lang.specs.declared.cell.Cell.{Cell}
-use Rattle.ecf_lang.specs.Store.{Cells, cell_cmp, find_cell, read, put}
+use Rattle.ecf_lang.specs.Store.{Cells, cell_cmp, find_cell, put}
 use Rattle.ecf_stores.specs.Pairs.{AreBelow, AreAbove}
 use Rattle.ecf_stores.specs.OrderLaws.{cell_order_is_total}
 use Rattle.ecf_stores.specs.CutLaws.{find_behind_front, find_before_back, put_behind_front, put_before_back}
-use Rattle.ecf_versions.specs.Pages.{Pages, cells_of, IsFrom, AreFrom, IsBefore, AreBefore, ArePaged, IsRow}
-use Rattle.ecf_versions.specs.Grown.{IsCut}
-use Rattle.ecf_versions.proofs.OrderLaws.{below_from, from_below, from_trans}
-use Rattle.ecf_versions.proofs.PutLaws.{all_put}
+use Rattle.ecf_versions.specs.Pages.{Pages, cells_of, IsFrom, IsBefore, ArePaged}
+use Rattle.ecf_versions.proofs.OrderLaws.{below_from}
 
 abbrev pub Page : Type 0
 Page = Cell × Cells
@@ -71,7 +68,7 @@ pub record Belongs (cell : Cell) (front : Pages) (page : Page) (back : Pages) : 
 module _ (cell : Cell) (front : Pages) (page : Page) (back : Pages) (paged : ArePaged (front ++ page ∷ back)) (belongs : Belongs cell front page back) where
   pub front_below : AreBelow (cells_of front) cell
   front_below = elim belongs.from [
-    inl none ↦ subst (λ (pages : Pages). AreBelow (cells_of pages) cell) (sym none) (All-nil (λ (pair : Cell × ℕ). cell_cmp pair.0 cell ≡ Less))
+    | inl none ↦ subst (λ (pages : Pages). AreBelow (cells_of pages) cell) (sym none) (All-nil (λ (pair : Cell × ℕ). cell_cmp pair.0 cell ≡ Less))
     | inr from ↦ pages_below cell front page back paged from
   ]
 

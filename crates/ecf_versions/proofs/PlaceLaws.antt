@@ -1,7 +1,7 @@
 -- Where in a row of pages a cell belongs.
-use Rattle.std.proofs.Common.{◌≡◌, ℕ, zero, suc, ◌+◌, ◌-◌, ◌<◌, ◌≤◌, ◌⊎◌, inl, inr, false, List, [], ◌∷◌, ◌++◌, length, map, take, drop, get_or, All, Some, unwrap_or, refl, ap, sym, ◌∙◌, subst, append_assoc, arith, Less}
+use Rattle.std.proofs.Common.{◌≡◌, ℕ, zero, suc, ◌+◌, ◌-◌, ◌<◌, ◌⊎◌, inl, inr, List, [], ◌∷◌, ◌++◌, length, map, take, drop, get_or, unwrap_or, refl, ap, sym, ◌∙◌, subst, append_assoc, arith, Less}
 use Rattle.std.specs.Arc.{arc_value}
-use Rattle.std.specs.List.{AllByRecursion, slice_get, remove, insert}
+use Rattle.std.specs.List.{AllByRecursion, remove, insert}
 use Rattle.std.specs.List.Sorted.{IsStrictlySortedBy}
 use Rattle.std.proofs.Math.Numerals.{add-one}
 use Rattle.std.proofs.Math.ListN.{get_or-map}

@@ -1,9 +1,9 @@
 -- What a write keeps of all cells.
-use Rattle.std.proofs.Common.{◌≡◌, ℕ, zero, suc, ◌+◌, ◌<◌, ◌∙◌, ap, sym, subst, length, take, get_or, Bool, true, false, cond, [], ◌∷◌, ◌++◌, All, Ordering, Less, Equal, Greater}
+use Rattle.std.proofs.Common.{◌≡◌, ℕ, zero, suc, ◌+◌, ◌<◌, ◌∙◌, ap, sym, subst, length, take, get_or, Bool, true, false, cond, [], ◌∷◌, All, Ordering, Less, Equal, Greater}
 use Rattle.std.specs.Ordering.{match_ordering}
 use Rattle.std.specs.BTreeMap.{is_at}
 use Rattle.std.proofs.lemmas.Option.{slice_get-get_or}
-use Rattle.std.proofs.lemmas.List.Elements.{All-nil, All-cons, All-head, All-tail}
+use Rattle.std.proofs.lemmas.List.Elements.{All-cons, All-head, All-tail}
 use Rattle.ecf_lang.specs.declared.cell.Cell.{Cell}
 use Rattle.ecf_lang.specs.Store.{Store, Cells, IsStore, cell_cmp, set, put, with_writes}
 use Rattle.ecf_stores.specs.StoreLaws.{put_keeps_store, empty_is_store, writes_keep_store, one_more_write_is_put, read_after_writes, same_reads_same_store}
@@ -39,9 +39,10 @@ module _ (P : Cell → Type 0) where
 pub one_more : (start before after : Store) (writes : Cells) (i : ℕ) (d : Cell × ℕ) → i < length writes → (before ≡ with_writes start (take i writes)) × IsStore before → after ≡ put before (get_or writes i d).0 (get_or writes i d).1
     → (after ≡ with_writes start (take (i + 1) writes)) × IsStore after
 one_more start before after writes i d inside so_far one =
-    let write : Cell × ℕ = get_or writes i d in
-    (one ∙ ap (λ (s : Store). put s write.0 write.1) so_far.0 ∙ sym (one_more_write_is_put start writes i write (slice_get-get_or writes i d inside)),
-    subst IsStore (sym one) (put_keeps_store before write.0 write.1 so_far.1))
+    let write : Cell × ℕ = get_or writes i d in (
+      one ∙ ap (λ (s : Store). put s write.0 write.1) so_far.0 ∙ sym (one_more_write_is_put start writes i write (slice_get-get_or writes i d inside)),
+      subst IsStore (sym one) (put_keeps_store before write.0 write.1 so_far.1),
+    )
 
 -- a store's own cells, written over none, give it
 pub own_writes : (store : Store) → IsStore store → with_writes [] store ≡ store

@@ -1,5 +1,5 @@
 -- What becomes of a row where a page is written, left out or cut off, and where the row is cut.
-use Rattle.std.proofs.Common.{◌≡◌, ℕ, zero, suc, ◌+◌, ◌<◌, ◌≤◌, ◌⊎◌, inl, inr, Bool, true, false, if◌then◌else◌, List, [], ◌∷◌, ◌++◌, length, All, Option, Some, None, refl, ap, sym, ◌∙◌, subst, arith, take, drop, get_or, Ordering, Less, Equal, Greater, is_lt, true≢false}
+use Rattle.std.proofs.Common.{◌≡◌, ℕ, zero, suc, ◌<◌, ◌⊎◌, inl, inr, Bool, true, false, if◌then◌else◌, List, [], ◌∷◌, ◌++◌, length, All, Option, Some, None, refl, ap, sym, ◌∙◌, subst, arith, take, drop, get_or, Ordering, Less, Equal, Greater, is_lt, true≢false}
 use Rattle.std.proofs.lemmas.List.{append-nil, length-append, take-append-drop, map-append}
 use Rattle.std.proofs.lemmas.List.Elements.{All-nil, All-cons, All-head, All-tail, All-append, All-weaker}
 use Rattle.ecf_lang.specs.declared.cell.Cell.{Cell}
@@ -71,6 +71,7 @@ cut_first low middle first second pairs back cut paged =
     before : (back : Pages) → AreBefore (first ++ second) back → AreBefore second back
     before [] below = tt
     before (q ∷ back) below = all_back (λ (pair : Cell × ℕ). cell_cmp pair.0 q.0 ≡ Less) first second below
+
     next : (back : Pages) → AreBefore (first ++ second) back → IsBefore middle back
     next [] below = tt
     next (q ∷ back) below = between middle q.0 second cut.second_filled cut.from (all_back (λ (pair : Cell × ℕ). cell_cmp pair.0 q.0 ≡ Less) first second below)
@@ -142,6 +143,7 @@ module _ {P : Type 0} (cells : P → Cells) where
       first : (front ≡ []) ⊎ IsFrom page.0 cell → is_lt (cell_cmp cell page.0) ≡ true → (front ≡ []) ⊎ (cell ≡ page.0)
       first (inl none) is = inl none
       first (inr from) is = absurd (true≢false (sym is ∙ from))
+
       by : (less : Bool) → is_lt (cell_cmp cell page.0) ≡ less → Lowered cell front page (if less then cell else page.0)
       by true is = record { from = above_is_from cell page.0 (less_of cell page.0 is); own = from_itself cell; which = first belongs.from is }
       by false is = record { from = from_itself page.0; own = is; which = inr refl }

@@ -1,6 +1,6 @@
 -- Cells that rise, on either side of one of them.
-use Rattle.std.proofs.Common.{◌≡◌, ℕ, zero, suc, ◌+◌, ◌<◌, ◌≤◌, List, [], ◌∷◌, length, map, take, drop, get_or, All, Some, refl, ap, sym, ◌∙◌, subst, arith, Less}
-use Rattle.std.specs.List.{AllByRecursion, slice_get}
+use Rattle.std.proofs.Common.{◌≡◌, ℕ, zero, suc, ◌+◌, ◌<◌, ◌≤◌, List, [], ◌∷◌, length, map, take, drop, get_or, Some, ap, sym, ◌∙◌, subst, arith, Less}
+use Rattle.std.specs.List.{AllByRecursion}
 use Rattle.std.specs.List.Sorted.{IsStrictlySortedBy}
 use Rattle.std.proofs.Math.Numerals.{add-one}
 use Rattle.std.proofs.Math.ListN.{get_or-map}
@@ -8,7 +8,7 @@ use Rattle.std.proofs.lemmas.Option.{slice_get-get_or}
 use Rattle.std.proofs.lemmas.List.Elements.{All-nil, All-cons}
 use Rattle.ecf_lang.specs.declared.cell.Cell.{Cell}
 use Rattle.ecf_lang.specs.Store.{cell_cmp}
-use Rattle.ecf_stores.specs.OrderLaws.{cell_order_is_total, cell_order_is_exact}
+use Rattle.ecf_stores.specs.OrderLaws.{cell_order_is_total}
 use Rattle.ecf_versions.specs.Places.{CellsBelow, CellsAbove, IsFound, IsGap}
 
 abbrev AreRising : List Cell → Type 0

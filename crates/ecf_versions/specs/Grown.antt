@@ -1,9 +1,9 @@
 -- What a page after a write holds.
-use Rattle.std.specs.Prelude.{◌≡◌, ◌<◌, List, [], ◌∷◌, ◌++◌, Option, Some, None, length, MatchOption}
+use Rattle.std.specs.Prelude.{◌≡◌, ◌<◌, ◌++◌, length, MatchOption}
 use Rattle.ecf_lang.specs.declared.cell.Cell.{Cell}
 use Rattle.ecf_lang.specs.Store.{Cells}
 use Rattle.ecf_stores.specs.Pairs.{AreBelow}
-use Rattle.ecf_versions.specs.Pages.{Pages, AreFrom}
+use Rattle.ecf_versions.specs.Pages.{AreFrom}
 use Rattle.ecf_versions.specs.declared.page.Grown.{Grown}
 
 -- two parts of these pairs, neither empty, cut at a cell

@@ -101,11 +101,7 @@ fn lower(a: Cell, b: Cell) -> Cell
 }
 
 // A row of one page with one cell, or of none for a 0.
-fn first_row<P: Page>(
-    alloc: Global,
-    cell: Cell,
-    value: u128,
-) -> Result<Vec<Item<P>>, AllocError>
+fn first_row<P: Page>(alloc: Global, cell: Cell, value: u128) -> Result<Vec<Item<P>>, AllocError>
     ensures row { IfOk result (λ after. IsRow (pages_of P.cells after.items)) }
     ensures cells { IfOk result (λ after. cells_of (pages_of P.cells after.items) ≡ put [] cell value) }
     ensures few { IfOk result (λ after. vec_len after ≤ 1) }

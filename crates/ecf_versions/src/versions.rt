@@ -89,11 +89,7 @@ impl CellRead for Versions {
 }
 
 // The root after these writes, one after the other.
-fn write_all(
-    alloc: Global,
-    from: Root,
-    writes: &[(Cell, u128)],
-) -> Result<Root, AllocError>
+fn write_all(alloc: Global, from: Root, writes: &[(Cell, u128)]) -> Result<Root, AllocError>
     requires { IsStore from }
     ensures cells { IfOk result (λ root. root ≡ with_writes from writes.now) }
     ensures store { IfOk result (λ root. IsStore root) }

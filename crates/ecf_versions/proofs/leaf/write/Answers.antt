@@ -1,9 +1,9 @@
 -- A cell that is there is changed or taken out, and one that isn't is put in or stays out.
-use Rattle.std.proofs.Common.{arith, ◌≡◌, ◌<◌, ◌≤◌, ◌∙◌, ap, sym, subst, set, vec_len, length}
+use Rattle.std.proofs.Common.{arith, ◌≡◌, ◌<◌, ◌∙◌, ap, subst, set}
 use Rattle.std.specs.Map.{keys_of}
 use Rattle.ecf_lang.specs.Store.{Cells, put}
 use Rattle.ecf_versions.specs.Places.{IsFound, IsGap}
-use Rattle.ecf_versions.proofs.LeafLaws.{removed, changed, added, unchanged, found_within, gap_within}
+use Rattle.ecf_versions.proofs.LeafLaws.{removed, changed, added, unchanged, found_within}
 use Rattle.ecf_versions.proofs.leaf.write.Goals as goal
 
 pub returns-then-value-eq0 : goal.returns-then-value-eq0

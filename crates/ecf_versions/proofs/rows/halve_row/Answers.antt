@@ -1,5 +1,5 @@
 -- A row cut before the page in its middle.
-use Rattle.std.proofs.Common.{arith, ◌<◌, ◌/◌, ◌≡◌, ◌∙◌, ℕ, length, drop, take}
+use Rattle.std.proofs.Common.{arith, ◌<◌, ◌/◌, ℕ, length}
 use Rattle.ecf_versions.proofs.RowLaws.{halved}
 use Rattle.ecf_versions.proofs.rows.halve_row.Goals as goal
 

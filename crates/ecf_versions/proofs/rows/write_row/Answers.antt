@@ -1,5 +1,5 @@
 -- The row with its page put back.
-use Rattle.std.proofs.Common.{◌≡◌, ◌∙◌, ap, sym, subst, get_or, List}
+use Rattle.std.proofs.Common.{◌≡◌, ◌∙◌, ap, subst, get_or, List}
 use Rattle.std.specs.Arc.{arc_value}
 use Rattle.std.proofs.lemmas.Result.{IfOk-weaker}
 use Rattle.ecf_lang.specs.Store.{Cells, put}

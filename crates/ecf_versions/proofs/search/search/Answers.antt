@@ -1,9 +1,9 @@
 -- The item in the middle tells on which side of it to go on.
-use Rattle.std.proofs.Common.{arith, ◌≡◌, ◌∙◌, ◌<◌, ◌≤◌, ◌+◌, ◌-◌, ◌/◌, ℕ, List, length, map, get_or, ap, sym, refl, Less, Equal, Greater}
+use Rattle.std.proofs.Common.{arith, ◌≡◌, ◌∙◌, ◌<◌, ◌≤◌, ◌+◌, ◌-◌, ◌/◌, ℕ, List, length, map, get_or, ap, sym}
 use Rattle.std.proofs.lemmas.List.{length-map}
 use Rattle.ecf_lang.specs.declared.cell.Cell.{Cell}
 use Rattle.ecf_lang.specs.Store.{cell_cmp}
-use Rattle.ecf_stores.specs.OrderLaws.{cell_order_is_total, cell_order_is_exact}
+use Rattle.ecf_stores.specs.OrderLaws.{cell_order_is_exact}
 use Rattle.ecf_versions.proofs.OrderLaws.{turn_back}
 use Rattle.ecf_versions.proofs.SearchLaws.{below_up_to, above_from, found, key_at, gap}
 use Rattle.ecf_versions.proofs.search.search.Goals as goal

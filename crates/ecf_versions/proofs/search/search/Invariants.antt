@@ -1,5 +1,5 @@
 -- The cells before the gap are below the one that is looked for, and those behind it are above.
-use Rattle.std.proofs.Common.{◌≡◌, ◌-◌, ◌≤◌, length, map, take, drop}
+use Rattle.std.proofs.Common.{◌-◌, ◌≤◌, length, map, take, drop}
 use Rattle.ecf_versions.specs.Places.{CellsBelow, CellsAbove}
 use Rattle.ecf_versions.proofs.search.search.Given as goal
 

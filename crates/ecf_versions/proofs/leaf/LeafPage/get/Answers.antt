@@ -1,5 +1,5 @@
 -- A cell that is found reads its value, and one that isn't reads 0.
-use Rattle.std.proofs.Common.{◌≡◌, ◌∙◌, ap, sym, subst}
+use Rattle.std.proofs.Common.{◌∙◌, ap, sym, subst}
 use Rattle.std.specs.Map.{keys_of}
 use Rattle.ecf_lang.specs.Store.{Cells, read}
 use Rattle.ecf_versions.specs.Places.{IsFound, IsGap}

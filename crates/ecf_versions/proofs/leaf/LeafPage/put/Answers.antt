@@ -1,8 +1,7 @@
 -- The cells still rise after a write, and are one more at most.
-use Rattle.std.proofs.Common.{arith, ◌≡◌, ◌≤◌, ◌+◌, subst, sym, length, ap}
+use Rattle.std.proofs.Common.{arith, ◌≡◌, ◌≤◌, subst, sym, length, ap}
 use Rattle.ecf_lang.specs.Store.{IsRising, put}
 use Rattle.ecf_versions.specs.declared.page.TheConstants.{MAX_ITEMS}
-use Rattle.ecf_versions.specs.Leaves.{IsLeaf}
 use Rattle.ecf_versions.proofs.LeafLaws.{put_length, put_rises}
 use Rattle.ecf_versions.proofs.leaf.LeafPage.put.Goals as goal
 
