@@ -11,3 +11,6 @@ mod search;
 mod versions;
 
 pub use versions::{Snapshot, Versions};
+
+#[cfg(test)]
+mod tests;
