@@ -24,7 +24,7 @@ use Rattle.ecf_lang.specs.Meaning.{flag_of}
 use Rattle.ecf_faults.specs.declared.What.{What}
 use Rattle.ecf_faults.specs.declared.What.TheVariants as what
 use Rattle.ecf_faults.specs.declared.Fault.{Fault}
-use Rattle.ecf_faults.specs.Tables.{Table, declaration_of, table_of, Surroundings, Locals}
+use Rattle.ecf_faults.specs.Tables.{Table, declaration_of, with_next, table_of, Surroundings, Locals}
 use Rattle.ecf_faults.specs.Expressions.{Report, fault, fault_if, differ, faults_for, method_number}
 use Rattle.ecf_faults.specs.Statements.{Passage, local_faults, with_local, block_passage}
 
@@ -32,11 +32,11 @@ use Rattle.ecf_faults.specs.Statements.{Passage, local_faults, with_local, block
 abbrev pub Declaration : Type 0
 Declaration = List ℕ × ℕ
 
--- each declaration whose name stands earlier: among those before the list, or before it in the list
-abbrev pub repeat_faults : What → List Declaration → List Declaration → List Fault
-repeat_faults what earlier [] = []
-repeat_faults what earlier (one ∷ others) =
-    fault_if (is_some (declaration_of (table_of earlier) one.0)) one.1 what ++ repeat_faults what (earlier ++ one ∷ []) others
+-- each declaration whose name stands in the table of those before it
+abbrev pub repeat_faults : What → Table (ℕ × ℕ) → List Declaration → List Fault
+repeat_faults what before [] = []
+repeat_faults what before (one ∷ others) =
+    fault_if (is_some (declaration_of before one.0)) one.1 what ++ repeat_faults what (with_next before one) others
 
 -- each declaration past a limit
 abbrev pub excess_faults : What → ℕ → List Declaration → List Fault
@@ -45,11 +45,11 @@ excess_faults what limit all = map (λ one. fault one.1 what) (drop limit all)
 -- ---- initial values and keys
 
 -- a name that stands for an object, or for nothing
-abbrev pub name_report : ℕ → Option ℕ → Report ℕ
+abbrev pub name_report : ℕ → Option (ℕ × ℕ) → Report ℕ
 name_report at None = record { place = at; ty = None; faults = fault at what.UnknownName ∷ []; form = 0 }
-name_report at (Some object) = record { place = at; ty = Some Addr; faults = []; form = object }
+name_report at (Some (object, token)) = record { place = at; ty = Some Addr; faults = []; form = object }
 
-abbrev pub const_report : Table ℕ → Const → Report ℕ
+abbrev pub const_report : Table (ℕ × ℕ) → Const → Report ℕ
 const_report objects (const.Number at value) = record { place = at; ty = Some Num; faults = []; form = value }
 const_report objects (const.Flag at value) = record { place = at; ty = Some Flag; faults = []; form = flag_of value }
 const_report objects (const.Name at name) = name_report at (declaration_of objects name)
@@ -99,8 +99,8 @@ object_declaration object = (object.name, object.at)
 abbrev pub all_members : Tree → List Member
 all_members tree = flat_map (λ object. object.members) tree.objects
 
-abbrev pub object_table : Tree → Table ℕ
-object_table tree = map (λ one. (one.0, one.1.0)) (table_of (map object_declaration tree.objects))
+abbrev pub object_table : Tree → Table (ℕ × ℕ)
+object_table tree = table_of (map object_declaration tree.objects)
 
 abbrev pub signature_table : Tree → Table (ℕ × Signature)
 signature_table tree = table_of (filter_map method_signature (all_members tree))
@@ -110,7 +110,7 @@ surroundings_of tree object = record {
   objects = object_table tree;
   signatures = signature_table tree;
   own = table_of (filter_map field_kind object.members);
-  methods = filter_map method_declaration object.members;
+  methods = table_of (filter_map method_declaration object.members);
 }
 
 -- ---- methods

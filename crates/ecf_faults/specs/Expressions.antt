@@ -60,12 +60,12 @@ faults_for want e = e.faults ++ type_faults want e.ty e.place
 -- ---- what a name without an index stands for
 
 -- a visible local, else a plain field, else an object; a map of the own object is told apart from nothing
-abbrev pub referent_of : Option (ℕ × Ty) → Option (ℕ × FieldKind) → Option ℕ → Referent
+abbrev pub referent_of : Option (ℕ × Ty) → Option (ℕ × FieldKind) → Option (ℕ × ℕ) → Referent
 referent_of (Some (n, ty)) own object = Local n ty
 referent_of None (Some (n, kind.Plain ty)) object = Field (number_below (2 ^ 8) n) ty
-referent_of None (Some (n, kind.Map key value)) (Some object) = Object (number_below (2 ^ 8) object)
+referent_of None (Some (n, kind.Map key value)) (Some (object, token)) = Object (number_below (2 ^ 8) object)
 referent_of None (Some (n, kind.Map key value)) None = Map
-referent_of None None (Some object) = Object (number_below (2 ^ 8) object)
+referent_of None None (Some (object, token)) = Object (number_below (2 ^ 8) object)
 referent_of None None None = Nothing
 
 -- in an expression: its type

@@ -7,11 +7,11 @@ use Rattle.ecf_lang.specs.declared.tree.Ty.{Ty}
 use Rattle.ecf_lang.specs.declared.typed.FieldKind.{FieldKind}
 use Rattle.ecf_lang.specs.declared.typed.Signature.{Signature}
 
--- names, none twice, each with what its declaration says
+-- names, each with what its declaration says
 abbrev pub Table : Type 0 → Type 0
 Table A = List (List ℕ × A)
 
--- what the declaration of a name says, if there is one
+-- what the first declaration of a name says, if there is one
 abbrev pub declaration_of : {A : Type 0} → Table A → List ℕ → Option A
 declaration_of table name = lookup (bytes_eq name) table
 
@@ -19,9 +19,13 @@ declaration_of table name = lookup (bytes_eq name) table
 abbrev pub with_declaration : {A : Type 0} → Table A → List ℕ → A → Table A
 with_declaration table name a = if is_some (declaration_of table name) then table else table ++ (name, a) ∷ []
 
+-- with one more declaration under the next number
+abbrev pub with_next : {A : Type 0} → Table (ℕ × A) → List ℕ × A → Table (ℕ × A)
+with_next table one = with_declaration table one.0 (length table, one.1)
+
 -- declarations in the order of the text: each name with its number, and with what its first declaration says
 abbrev pub table_of : {A : Type 0} → List (List ℕ × A) → Table (ℕ × A)
-table_of all = fold (λ table one. with_declaration table one.0 (length table, one.1)) [] all
+table_of = fold with_next []
 
 -- the number of a declaration that there may be
 abbrev pub number_of : {A : Type 0} → Option (ℕ × A) → ℕ
@@ -34,14 +38,14 @@ number_below limit n = if nat_lt n limit then n else 0
 
 -- what is declared outside of methods, as an object sees it
 pub record Surroundings : Type 0 where
-  -- the objects of the file by number
-  pub objects : Table ℕ
+  -- the objects of the file by number, with their tokens
+  pub objects : Table (ℕ × ℕ)
   -- the method names of the file by number, with the types of the first method of that name
   pub signatures : Table (ℕ × Signature)
   -- the object's own fields and maps by number
   pub own : Table (ℕ × FieldKind)
-  -- the object's own methods
-  pub methods : Table ℕ
+  -- the object's own methods by number, with their tokens
+  pub methods : Table (ℕ × ℕ)
 
 -- the locals of a method at one of its places
 pub record Locals : Type 0 where
