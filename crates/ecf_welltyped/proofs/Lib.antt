@@ -1,0 +1,10 @@
+mod ListLaws
+mod SpellingLaws
+mod TableLaws
+mod ExpressionLaws
+mod SpelledExpressionLaws
+mod StatementLaws
+mod SpelledStatementLaws
+mod MemberLaws
+mod FormLaws
+mod TreeLaws
