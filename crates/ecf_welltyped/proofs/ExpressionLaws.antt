@@ -212,10 +212,6 @@ module _ (typed : Typed) (own : TypedObject) where
       -- ---- expressions
 
       module _ (visible : Table (ℕ × Ty)) where
-        -- an expression of this form, with what there is to say of its parts
-        abbrev step : Expr-F (Report TypedCall) (Report TypedExpr) → Report TypedExpr
-        step e = expr_step around visible e
-
         pub number_is_typed : (at value : ℕ) → value < 2 ^ 128 → IsTyped (expr_step around visible (Expr-F.Number at value))
         number_is_typed at value small none = (Num, refl, HasType.number small)
 

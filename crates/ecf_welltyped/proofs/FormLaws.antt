@@ -2,7 +2,6 @@
 use Rattle.std.proofs.Common.{◌≡◌, ◌≢◌, ℕ, zero, suc, ◌<◌, ◌≤◌, ◌==◌, Bool, true, false, cond, List, [], ◌∷◌, ◌++◌, map, length, Option, Some, None, refl, sym, subst, ap, ◌∙◌, arith}
 use Rattle.std.specs.Prelude.{slice_get, find, drop, IsSome, MatchOption, ⊤}
 use Rattle.std.specs.List.{AllByRecursion, Any, flat_map, filter_map, cons_option}
-use Rattle.std.proofs.lemmas.Bool.Decides.{nat_tests}
 use Rattle.std.proofs.lemmas.List.{length-map}
 use Rattle.std.proofs.lemmas.List.Elements.{filter_map-append}
 use Rattle.std.proofs.lemmas.Option.{some_pair_parts, same_Some}
@@ -23,14 +22,11 @@ use Rattle.ecf_faults.specs.declared.What.TheVariants as what
 use Rattle.ecf_faults.specs.Tables.{declaration_of, Surroundings}
 use Rattle.ecf_faults.specs.Expressions.{fault, method_number}
 use Rattle.ecf_faults.specs.Declarations.{Declaration, repeat_faults, excess_faults, field_kind, field_declaration, method_declaration, method_signature, member_faults, field_form, method_form, object_faults}
-use Rattle.ecf_welltyped.proofs.ListLaws.{none_front, none_behind}
+use Rattle.ecf_welltyped.proofs.ListLaws.{itself, none_front, none_behind}
 use Rattle.ecf_welltyped.proofs.SpellingLaws.{AreSpelled, front, behind, name_spelled}
 use Rattle.ecf_welltyped.proofs.TableLaws.{names, Apart, weaker, all_front, all_behind, all_both, AreNew, are_new}
 
 -- ---- lists
-
-same_number : (a b : ℕ) → a ≡ b → (a == b) ≡ true
-same_number a b is = grind (arith, nat_tests)
 
 same_some : {A : Type 0} (x y : A) → Some x ≡ Some y → x ≡ y
 same_some x y e = same_Some x y e
@@ -153,8 +149,8 @@ module _ (around : Surroundings) where
 
 -- ---- methods are found by their numbers
 
-found_first : (m : TypedMethod) (rest : Option TypedMethod) (n : ℕ) → m.name ≡ n → IsSome (cond (m.name == n) (Some m) rest)
-found_first m rest n is = subst (λ b. IsSome (cond b (Some m) rest)) (sym (same_number m.name n is)) refl
+found_first : (m : TypedMethod) (rest : Option TypedMethod) → IsSome (cond (m.name == m.name) (Some m) rest)
+found_first m rest = subst (λ b. IsSome (cond b (Some m) rest)) (sym (itself m.name)) refl
 
 found_later : (b : Bool) (m : TypedMethod) (rest : Option TypedMethod) → IsSome rest → IsSome (cond b (Some m) rest)
 found_later true m rest is = refl
@@ -163,7 +159,7 @@ found_later false m rest is = is
 pub methods_found : (ms : List TypedMethod) → AllByRecursion (λ (m : TypedMethod). IsSome (find (λ (x : TypedMethod). x.name == m.name) ms)) ms
 methods_found [] = tt
 methods_found (m ∷ ms) = (
-  found_first m (find (λ (x : TypedMethod). x.name == m.name) ms) m.name refl,
+  found_first m (find (λ (x : TypedMethod). x.name == m.name) ms),
   weaker (λ (o : TypedMethod). IsSome (find (λ (x : TypedMethod). x.name == o.name) ms)) (λ (o : TypedMethod). IsSome (find (λ (x : TypedMethod). x.name == o.name) (m ∷ ms)))
       (λ o is. found_later (m.name == o.name) m (find (λ (x : TypedMethod). x.name == o.name) ms) is) ms (methods_found ms),
 )

@@ -1,5 +1,5 @@
 -- Lists without elements, types that don't differ, and numbers below a limit.
-use Rattle.std.proofs.Common.{◌≡◌, ℕ, ◌<◌, Bool, true, false, List, [], ◌∷◌, ◌++◌, Some, refl, arith}
+use Rattle.std.proofs.Common.{◌≡◌, ℕ, ◌<◌, Bool, true, false, List, [], ◌∷◌, ◌++◌, Some, refl, arith, ◌==◌, not, nat_lt}
 use Rattle.std.proofs.lemmas.Bool.Decides.{nat_tests}
 use Rattle.ecf_lang.specs.declared.tree.Ty.{Ty}
 use Rattle.ecf_lang.specs.declared.tree.Ty.TheVariants.{Num, Flag, Addr}
@@ -40,3 +40,11 @@ as_required want has token none = same_type want has (not_so (differ want has) t
 -- a number below the limit is kept
 pub number_kept : (limit n : ℕ) → n < limit → number_below limit n ≡ n
 number_kept limit n small = grind (arith, nat_tests)
+
+-- ---- tests of numbers
+
+pub itself : (n : ℕ) → (n == n) ≡ true
+itself n = grind (arith, nat_tests)
+
+pub is_below : (n limit : ℕ) → not (nat_lt n limit) ≡ false → n < limit
+is_below n limit e = grind (arith, nat_tests)

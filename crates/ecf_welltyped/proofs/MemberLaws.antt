@@ -30,7 +30,7 @@ use Rattle.ecf_faults.specs.Tables.{Table, declaration_of, Surroundings, Locals}
 use Rattle.ecf_faults.specs.Expressions.{Report, fault_if, differ, type_faults, faults_for, method_number}
 use Rattle.ecf_faults.specs.Statements.{local_faults, next_number, with_local}
 use Rattle.ecf_faults.specs.Declarations.{name_report, const_report, const_at, is_type, key_faults, field_form, method_form, method_signature, signature_of, lists_differ, signature_faults, no_locals, parameter_locals, parameter_faults, body_passage, pair_faults, member_faults}
-use Rattle.ecf_welltyped.proofs.ListLaws.{none_front, none_behind, not_so, same_type, as_required, number_kept}
+use Rattle.ecf_welltyped.proofs.ListLaws.{is_below, itself, none_front, none_behind, not_so, same_type, as_required, number_kept}
 use Rattle.ecf_welltyped.proofs.SpellingLaws.{AreSpelled, front, behind, name_spelled, number_spelled}
 use Rattle.ecf_welltyped.proofs.TableLaws.{one_more, Apart, pairs, weaker}
 use Rattle.ecf_welltyped.proofs.ExpressionLaws.{HasMethodName, Agrees}
@@ -130,9 +130,6 @@ param_seen_by : (scope : Scope) (k n : ℕ) (ty other : Ty) (same : Bool) → (k
 param_seen_by scope k n ty other true is less rest = absurd (grind (arith, nat_tests))
 param_seen_by scope k n ty other false is less rest = rest
 
-itself : (n : ℕ) → (n == n) ≡ true
-itself n = grind (arith, nat_tests)
-
 param_seen : (k : ℕ) (tys : List Ty) (i n : ℕ) (ty : Ty) → n ≡ k + i → slice_get tys i ≡ Some ty → Sees (enumerate_from k tys) n ty
 param_seen k [] i n ty is e = absurd cc
 param_seen k (t ∷ tys) zero n ty is e =
@@ -166,9 +163,6 @@ old_or_new : {P Q R : Type 0} → (P → Q) → P ⊎ R → Q ⊎ R
 old_or_new f (inl p) = inl (f p)
 old_or_new f (inr r) = inr r
 
-below : (n limit : ℕ) → not (nat_lt n limit) ≡ false → n < limit
-below n limit e = grind (arith, nat_tests)
-
 next_is : (n : ℕ) → n < MAX_PARAMETERS → next_number n ≡ suc n
 next_is n few = grind (arith, nat_tests)
 
@@ -181,7 +175,7 @@ parameters_are tys locals [] are none = subst (λ all. AreParameters all locals)
 parameters_are tys locals (param ∷ params) are none =
     let here = none_front (local_faults MAX_PARAMETERS param.at param.name locals) (parameter_faults (with_local param.name param.ty locals) params) none in
     let there = is_some (declaration_of locals.visible param.name) in
-    let less = below locals.next MAX_PARAMETERS (not_so (not (nat_lt locals.next MAX_PARAMETERS)) param.at _
+    let less = is_below locals.next MAX_PARAMETERS (not_so (not (nat_lt locals.next MAX_PARAMETERS)) param.at _
     (none_behind (fault_if there param.at what.TwoLocals) (fault_if (not (nat_lt locals.next MAX_PARAMETERS)) param.at what.TooManyLocals) here)) in
     let more : AreParameters (tys ++ param.ty ∷ []) (with_local param.name param.ty locals) = record {
       next = omega (arith, next_is locals.next less, are.next, length_push tys param.ty);

@@ -34,60 +34,60 @@ module _ (typed : Typed) (own : TypedObject) (scope : Scope) (around : Surroundi
   part_reports Is [] are = tt
   part_reports Is (part ∷ parts) are = (are.0, part_reports Is parts are.1)
 
-  either_fits : (first : Expr) (rest : List Expr) → IsFit first → AllByRecursion IsFit rest → IsFit (either_of first rest)
-  either_fits first [] is are = is
-  either_fits first (second ∷ rest) is are =
+  either_of_fits : (first : Expr) (rest : List Expr) → IsFit first → AllByRecursion IsFit rest → IsFit (either_of first rest)
+  either_of_fits first [] is are = is
+  either_of_fits first (second ∷ rest) is are =
       subst (IsTyped typed own scope) (sym (report_or around visible (first ∷ second ∷ rest)))
       (or_is_typed typed own scope around agrees visible (report_of around visible first) (report_of around visible second) (map (report_of around visible) rest) (is, reports (second ∷ rest) are))
 
-  both_fits : (first : Expr) (rest : List Expr) → IsFit first → AllByRecursion IsFit rest → IsFit (both_of first rest)
-  both_fits first [] is are = is
-  both_fits first (second ∷ rest) is are =
+  both_of_fits : (first : Expr) (rest : List Expr) → IsFit first → AllByRecursion IsFit rest → IsFit (both_of first rest)
+  both_of_fits first [] is are = is
+  both_of_fits first (second ∷ rest) is are =
       subst (IsTyped typed own scope) (sym (report_and around visible (first ∷ second ∷ rest)))
       (and_is_typed typed own scope around agrees visible (report_of around visible first) (report_of around visible second) (map (report_of around visible) rest) (is, reports (second ∷ rest) are))
 
-  sum_fits : (first : Expr) (rest : List (Op × Expr)) → IsFit first → AllByRecursion (λ part. IsOfSum part.0 × IsFit part.1) rest → IsFit (sum_of first rest)
-  sum_fits first [] is are = is
-  sum_fits first (second ∷ rest) is are =
+  sum_of_fits : (first : Expr) (rest : List (Op × Expr)) → IsFit first → AllByRecursion (λ part. IsOfSum part.0 × IsFit part.1) rest → IsFit (sum_of first rest)
+  sum_of_fits first [] is are = is
+  sum_of_fits first (second ∷ rest) is are =
       subst (IsTyped typed own scope) (sym (report_sum around visible first (second ∷ rest)))
       (sum_is_typed typed own scope around agrees visible (report_of around visible first) (second.0, report_of around visible second.1) (map (λ part. (part.0, report_of around visible part.1)) rest) is (part_reports IsOfSum (second ∷ rest) are))
 
-  product_fits : (first : Expr) (rest : List (Op × Expr)) → IsFit first → AllByRecursion (λ part. IsOfProduct part.0 × IsFit part.1) rest → IsFit (product_of first rest)
-  product_fits first [] is are = is
-  product_fits first (second ∷ rest) is are =
+  product_of_fits : (first : Expr) (rest : List (Op × Expr)) → IsFit first → AllByRecursion (λ part. IsOfProduct part.0 × IsFit part.1) rest → IsFit (product_of first rest)
+  product_of_fits first [] is are = is
+  product_of_fits first (second ∷ rest) is are =
       subst (IsTyped typed own scope) (sym (report_product around visible first (second ∷ rest)))
       (product_is_typed typed own scope around agrees visible (report_of around visible first) (second.0, report_of around visible second.1) (map (λ part. (part.0, report_of around visible part.1)) rest) is (part_reports IsOfProduct (second ∷ rest) are))
 
   mutual
     pub expr_fits : {a : NumberedLexemes} {x : Expr} → SpellsExpr a x → AreSpelled a → IsFit x
-    expr_fits (SpellsExpr.either {a = a} {b = b} {first = first} {rest = rest} p q) s = either_fits first rest (both_fits_too p (front a b s)) (eithers_fit q (behind a b s))
+    expr_fits (SpellsExpr.either {a = a} {b = b} {first = first} {rest = rest} p q) s = either_of_fits first rest (both_fits p (front a b s)) (eithers_fit q (behind a b s))
 
     eithers_fit : {a : NumberedLexemes} {xs : List Expr} → SpellsEithers a xs → AreSpelled a → AllByRecursion IsFit xs
     eithers_fit SpellsEithers.no_or s = tt
-    eithers_fit (SpellsEithers.or {s = o} {a = a} {b = b} v p q) s = (both_fits_too p (front a b (behind o (a ++ b) s)), eithers_fit q (behind a b (behind o (a ++ b) s)))
+    eithers_fit (SpellsEithers.or {s = o} {a = a} {b = b} v p q) s = (both_fits p (front a b (behind o (a ++ b) s)), eithers_fit q (behind a b (behind o (a ++ b) s)))
 
-    both_fits_too : {a : NumberedLexemes} {x : Expr} → SpellsBoth a x → AreSpelled a → IsFit x
-    both_fits_too (SpellsBoth.both {a = a} {b = b} {first = first} {rest = rest} p q) s = both_fits first rest (comparison_fits p (front a b s)) (boths_fit q (behind a b s))
+    both_fits : {a : NumberedLexemes} {x : Expr} → SpellsBoth a x → AreSpelled a → IsFit x
+    both_fits (SpellsBoth.both {a = a} {b = b} {first = first} {rest = rest} p q) s = both_of_fits first rest (comparison_fits p (front a b s)) (boths_fit q (behind a b s))
 
     boths_fit : {a : NumberedLexemes} {xs : List Expr} → SpellsBoths a xs → AreSpelled a → AllByRecursion IsFit xs
     boths_fit SpellsBoths.no_and s = tt
     boths_fit (SpellsBoths.and {s = o} {a = a} {b = b} v p q) s = (comparison_fits p (front a b (behind o (a ++ b) s)), boths_fit q (behind a b (behind o (a ++ b) s)))
 
     comparison_fits : {a : NumberedLexemes} {x : Expr} → SpellsComparison a x → AreSpelled a → IsFit x
-    comparison_fits (SpellsComparison.uncompared p) s = sum_fits_too p s
+    comparison_fits (SpellsComparison.uncompared p) s = sum_fits p s
     comparison_fits (SpellsComparison.compared {a = a} {s = c} {b = b} {left = left} {t = t} {o = o} {right = right} p v g q) s =
         subst (IsTyped typed own scope) (sym (report_compare around visible left o right))
-        (compare_is_typed typed own scope around agrees visible (report_of around visible left) o (report_of around visible right) (compares t o g) (sum_fits_too p (front a (c ++ b) s)) (sum_fits_too q (behind c b (behind a (c ++ b) s))))
+        (compare_is_typed typed own scope around agrees visible (report_of around visible left) o (report_of around visible right) (compares t o g) (sum_fits p (front a (c ++ b) s)) (sum_fits q (behind c b (behind a (c ++ b) s))))
 
-    sum_fits_too : {a : NumberedLexemes} {x : Expr} → SpellsSum a x → AreSpelled a → IsFit x
-    sum_fits_too (SpellsSum.sum {a = a} {b = b} {first = first} {rest = rest} p q) s = sum_fits first rest (product_fits_too p (front a b s)) (sums_fit q (behind a b s))
+    sum_fits : {a : NumberedLexemes} {x : Expr} → SpellsSum a x → AreSpelled a → IsFit x
+    sum_fits (SpellsSum.sum {a = a} {b = b} {first = first} {rest = rest} p q) s = sum_of_fits first rest (product_fits p (front a b s)) (sums_fit q (behind a b s))
 
     sums_fit : {a : NumberedLexemes} {xs : List (Op × Expr)} → SpellsSums a xs → AreSpelled a → AllByRecursion (λ part. IsOfSum part.0 × IsFit part.1) xs
     sums_fit SpellsSums.no_term s = tt
-    sums_fit (SpellsSums.term {s = c} {a = a} {b = b} {t = t} {o = o} v g p q) s = ((is_of_sum t o g, product_fits_too p (front a b (behind c (a ++ b) s))), sums_fit q (behind a b (behind c (a ++ b) s)))
+    sums_fit (SpellsSums.term {s = c} {a = a} {b = b} {t = t} {o = o} v g p q) s = ((is_of_sum t o g, product_fits p (front a b (behind c (a ++ b) s))), sums_fit q (behind a b (behind c (a ++ b) s)))
 
-    product_fits_too : {a : NumberedLexemes} {x : Expr} → SpellsProduct a x → AreSpelled a → IsFit x
-    product_fits_too (SpellsProduct.product {a = a} {b = b} {first = first} {rest = rest} p q) s = product_fits first rest (unary_fits p (front a b s)) (products_fit q (behind a b s))
+    product_fits : {a : NumberedLexemes} {x : Expr} → SpellsProduct a x → AreSpelled a → IsFit x
+    product_fits (SpellsProduct.product {a = a} {b = b} {first = first} {rest = rest} p q) s = product_of_fits first rest (unary_fits p (front a b s)) (products_fit q (behind a b s))
 
     products_fit : {a : NumberedLexemes} {xs : List (Op × Expr)} → SpellsProducts a xs → AreSpelled a → AllByRecursion (λ part. IsOfProduct part.0 × IsFit part.1) xs
     products_fit SpellsProducts.no_factor s = tt

@@ -1,5 +1,5 @@
 -- Each form of statement, of parts that are as they should be where they have no fault, is so too; and so are stretches of them.
-use Rattle.std.proofs.Common.{◌≡◌, ℕ, suc, ◌^◌, ◌<◌, ◌≤◌, ◌==◌, true, false, not, cond, List, [], ◌∷◌, ◌++◌, map, Option, Some, None, is_some, refl, sym, subst, ap, ◌∙◌, arith, ◌⊎◌, inl, inr}
+use Rattle.std.proofs.Common.{◌≡◌, ℕ, suc, ◌^◌, ◌<◌, ◌≤◌, ◌==◌, false, not, cond, List, [], ◌∷◌, ◌++◌, map, Option, Some, None, is_some, refl, sym, subst, ap, ◌∙◌, arith, ◌⊎◌, inl, inr}
 use Rattle.std.specs.Prelude.{nat_lt, find}
 use Rattle.std.specs.List.{AllByRecursion}
 use Rattle.std.specs.Option.{option_map}
@@ -26,13 +26,9 @@ use Rattle.ecf_wellformed.specs.Typing.{Scope, Sees, AssigneeHas, Calls, IsStmt,
 use Rattle.ecf_faults.specs.Tables.{Table, declaration_of, Surroundings, Locals}
 use Rattle.ecf_faults.specs.Expressions.{fault_if, faults_for, type_faults, referent_of, referent, map_faults, key_type, value_type, report_of, call_report_of}
 use Rattle.ecf_faults.specs.Statements.{Passage, Stretch, sequence_of, local_faults, next_number, with_local, assignee_faults, assignee_type, assignee_form, try_form, block_end, value, arm_step, last_step, stmt_step, stmt_passage, block_passage}
-use Rattle.ecf_welltyped.proofs.ListLaws.{none_front, none_behind, not_so, as_required, number_kept}
+use Rattle.ecf_welltyped.proofs.ListLaws.{is_below, itself, none_front, none_behind, not_so, as_required, number_kept}
 use Rattle.ecf_welltyped.proofs.TableLaws.{one_more}
 use Rattle.ecf_welltyped.proofs.ExpressionLaws.{HasField, Agrees, AreSeen, IsTyped, IsTypedCall, has_type, indexed}
-
--- what a number's own test says, beside a smaller number
-itself : (n : ℕ) → (n == n) ≡ true
-itself n = grind (arith, nat_tests)
 
 another : (n m : ℕ) → m < n → (n == m) ≡ false
 another n m less = grind (arith, nat_tests)
@@ -45,9 +41,6 @@ older_is_seen scope n m ty other less sees = ap (λ b. cond b (Some (n, ty)) (fi
 
 next_is_suc : (n : ℕ) → n < MAX_LOCALS → next_number n ≡ suc n
 next_is_suc n few = grind (arith, nat_tests)
-
-is_below : (n limit : ℕ) → not (nat_lt n limit) ≡ false → n < limit
-is_below n limit e = grind (arith, nat_tests)
 
 -- the locals are those of the scope, each with a smaller number than the next one, and there are few
 pub record AreLocals (scope : Scope) (locals : Locals) : Type 0 where

@@ -50,32 +50,32 @@ module _ (tree : Tree) where
 
   -- the object has the method of that name
   abbrev Has : TypedObject → List ℕ × Signature → Type 0
-  Has object one = IsSome (method_of object (method_number (declaration_of (signature_table tree) one.0)))
+  Has object one = IsSome (method_of object (number one.0))
 
   has_own : (object : ObjectDecl) → AllByRecursion (Has (form object)) (filter_map method_signature object.members)
   has_own object =
       signature_numbers (surroundings_of tree object) (λ n. IsSome (method_of (form object) n)) object.members (methods_found (filter_map (method_form (surroundings_of tree object)) object.members))
 
-  used_in : (objects : List ObjectDecl) → AllByRecursion (λ object. AllByRecursion (λ one. Any (λ o. Has o one) (map (λ object. object_form (surroundings_of tree object) object) objects)) (filter_map method_signature object.members)) objects
+  used_in : (objects : List ObjectDecl) → AllByRecursion (λ object. AllByRecursion (λ one. Any (λ o. Has o one) (map form objects)) (filter_map method_signature object.members)) objects
   used_in [] = tt
   used_in (object ∷ objects) = (
-    weaker (Has (form object)) (λ one. Any (λ o. Has o one) (form object ∷ map (λ object. object_form (surroundings_of tree object) object) objects))
-        (λ one is. any_here (λ o. Has o one) (form object) (map (λ object. object_form (surroundings_of tree object) object) objects) is) (filter_map method_signature object.members) (has_own object),
-    weaker (λ (other : ObjectDecl). AllByRecursion (λ one. Any (λ o. Has o one) (map (λ object. object_form (surroundings_of tree object) object) objects)) (filter_map method_signature other.members))
-        (λ (other : ObjectDecl). AllByRecursion (λ one. Any (λ o. Has o one) (form object ∷ map (λ object. object_form (surroundings_of tree object) object) objects)) (filter_map method_signature other.members))
-        (λ other all. weaker (λ one. Any (λ o. Has o one) (map (λ object. object_form (surroundings_of tree object) object) objects)) (λ one. Any (λ o. Has o one) (form object ∷ map (λ object. object_form (surroundings_of tree object) object) objects))
-        (λ one is. any_there (λ o. Has o one) (form object) (map (λ object. object_form (surroundings_of tree object) object) objects) is) (filter_map method_signature other.members) all)
+    weaker (Has (form object)) (λ one. Any (λ o. Has o one) (form object ∷ map form objects))
+        (λ one is. any_here (λ o. Has o one) (form object) (map form objects) is) (filter_map method_signature object.members) (has_own object),
+    weaker (λ (other : ObjectDecl). AllByRecursion (λ one. Any (λ o. Has o one) (map form objects)) (filter_map method_signature other.members))
+        (λ (other : ObjectDecl). AllByRecursion (λ one. Any (λ o. Has o one) (form object ∷ map form objects)) (filter_map method_signature other.members))
+        (λ other all. weaker (λ one. Any (λ o. Has o one) (map form objects)) (λ one. Any (λ o. Has o one) (form object ∷ map form objects))
+        (λ one is. any_there (λ o. Has o one) (form object) (map form objects) is) (filter_map method_signature other.members) all)
         objects (used_in objects),
   )
 
-  all_used : AllByRecursion (λ one. IsMethodName (numbered_form tree) (method_number (declaration_of (signature_table tree) one.0))) (signature_table tree)
+  all_used : AllByRecursion (λ one. IsMethodName (numbered_form tree) (number one.0)) (signature_table tree)
   all_used =
-      from_declarations (λ name signature. IsMethodName (numbered_form tree) (method_number (declaration_of (signature_table tree) name))) signatures
-      (signatures_of_all (λ one. IsMethodName (numbered_form tree) (method_number (declaration_of (signature_table tree) one.0))) tree.objects (used_in tree.objects))
+      from_declarations (λ name signature. IsMethodName (numbered_form tree) (number name)) signatures
+      (signatures_of_all (λ one. IsMethodName (numbered_form tree) (number one.0)) tree.objects (used_in tree.objects))
 
   -- ---- there are few
 
-  few_signatures : (objects : List ObjectDecl) → AllByRecursion (λ object. IsFaultless (surroundings_of tree object) object.members) objects
+  few_signatures : (objects : List ObjectDecl) → AllByRecursion IsSoundObject objects
       → length (filter_map method_signature (flat_map (λ object. object.members) objects)) ≤ MAX_METHODS * length objects
   few_signatures [] all = omega arith
   few_signatures (object ∷ objects) all =
@@ -90,19 +90,19 @@ module _ (tree : Tree) where
         ap length (filter_map-append method_signature object.members (flat_map (λ object. object.members) objects)),
       )
 
-  module _ (few_objects : length tree.objects ≤ MAX_OBJECTS) (all : AllByRecursion (λ object. IsFaultless (surroundings_of tree object) object.members) tree.objects) where
+  module _ (few_objects : length tree.objects ≤ MAX_OBJECTS) (all : AllByRecursion IsSoundObject tree.objects) where
     small : (name : List ℕ) (n : ℕ) (s : Signature) → declaration_of (signature_table tree) name ≡ Some (n, s) → n < 2 ^ 16
     small name n s e =
         omega (arith, slice_get_within (signature_table tree) n (name, (n, s)) (stands (signature_table tree) name n s (is_table signatures) e), no_longer signatures, few_signatures tree.objects all, few_objects)
 
-    number_is : (name : List ℕ) (n : ℕ) (s : Signature) → declaration_of (signature_table tree) name ≡ Some (n, s) → method_number (declaration_of (signature_table tree) name) ≡ n
+    number_is : (name : List ℕ) (n : ℕ) (s : Signature) → declaration_of (signature_table tree) name ≡ Some (n, s) → number name ≡ n
     number_is name n s e = ap method_number e ∙ number_kept (2 ^ 16) n (small name n s e)
 
     has_method_name : (object : ObjectDecl) (name : List ℕ) (n : ℕ) (s : Signature) → declaration_of (signature_table tree) name ≡ Some (n, s) → HasMethodName (numbered_form tree) (form object) n s
     has_method_name object name n s e = record {
       small = small name n s e;
       used = subst (IsMethodName (numbered_form tree)) (number_is name n s e)
-          (declared (λ name value. IsMethodName (numbered_form tree) (method_number (declaration_of (signature_table tree) name))) (signature_table tree) name (n, s) all_used e);
+          (declared (λ name value. IsMethodName (numbered_form tree) (number name)) (signature_table tree) name (n, s) all_used e);
       signature = slice_get-map (λ one. one.1.1) (signature_table tree) n ∙ ap (option_map (λ one. one.1.1)) (stands (signature_table tree) name n s (is_table signatures) e);
     }
 
@@ -125,16 +125,15 @@ module _ (tree : Tree) where
       has_object name n token e =
           let declarations = map object_declaration tree.objects in
           let within = slice_get_within (object_table tree) n (name, (n, token)) (stands (object_table tree) name n token (is_table declarations) e) in
-          let forms = map (λ object. object_form (surroundings_of tree object) object) tree.objects in
           let less : n < length tree.objects = omega (arith, within, no_longer declarations, length-map tree.objects object_declaration) in
-          (omega (arith, less, few_objects), omega (arith, less, length-map tree.objects (λ object. object_form (surroundings_of tree object) object)))
+          (omega (arith, less, few_objects), omega (arith, less, length-map tree.objects form))
 
       -- the names of the object's methods, however they are listed
-      own_names : AllByRecursion (λ one. IsSome (method_of (form object) (method_number (declaration_of (signature_table tree) one.0)))) (filter_map method_declaration object.members)
+      own_names : AllByRecursion (λ one. IsSome (method_of (form object) (number one.0))) (filter_map method_declaration object.members)
       own_names =
-          unmapped (λ one. one.0) (λ name. IsSome (method_of (form object) (method_number (declaration_of (signature_table tree) name)))) (filter_map method_declaration object.members)
-          (subst (AllByRecursion (λ name. IsSome (method_of (form object) (method_number (declaration_of (signature_table tree) name))))) (signature_names object.members)
-          (mapped (λ one. one.0) (λ name. IsSome (method_of (form object) (method_number (declaration_of (signature_table tree) name)))) (filter_map method_signature object.members) (has_own object)))
+          unmapped (λ one. one.0) (λ name. IsSome (method_of (form object) (number name))) (filter_map method_declaration object.members)
+          (subst (AllByRecursion (λ name. IsSome (method_of (form object) (number name)))) (signature_names object.members)
+          (mapped (λ one. one.0) (λ name. IsSome (method_of (form object) (number name))) (filter_map method_signature object.members) (has_own object)))
 
       has_own_method : (name : List ℕ) (n : ℕ) (s : Signature) → is_some (declaration_of (table_of (filter_map method_declaration object.members)) name) ≡ true → declaration_of (signature_table tree) name ≡ Some (n, s)
           → IsSome (method_of (form object) n)
@@ -142,8 +141,8 @@ module _ (tree : Tree) where
           let methods = table_of (filter_map method_declaration object.members) in
           let here = some_declared (declaration_of methods name) there in
           subst (λ m. IsSome (method_of (form object) m)) (number_is name n s e)
-          (declared (λ name value. IsSome (method_of (form object) (method_number (declaration_of (signature_table tree) name)))) methods name (here.0, here.1)
-          (from_declarations (λ name token. IsSome (method_of (form object) (method_number (declaration_of (signature_table tree) name)))) (filter_map method_declaration object.members) own_names) here.2)
+          (declared (λ name value. IsSome (method_of (form object) (number name))) methods name (here.0, here.1)
+          (from_declarations (λ name token. IsSome (method_of (form object) (number name))) (filter_map method_declaration object.members) own_names) here.2)
 
       agrees : Agrees (numbered_form tree) (form object) (surroundings_of tree object)
       agrees = record { fields = has_field; objects = has_object; methods = has_method_name object; own_methods = has_own_method }
@@ -163,7 +162,7 @@ module _ (tree : Tree) where
 
         -- names with one number are one name
         one_name : (a b : List ℕ) → IsThere (signature_table tree) a → IsThere (signature_table tree) b
-            → method_number (declaration_of (signature_table tree) a) ≡ method_number (declaration_of (signature_table tree) b) → a ≡ b
+            → number a ≡ number b → a ≡ b
         one_name a b at_a at_b same =
             let numbers : at_a.0 ≡ at_b.0 = sym (number_is a at_a.0 at_a.1 at_a.2) ∙ same ∙ number_is b at_b.0 at_b.1 at_b.2 in
             let first = stands (signature_table tree) a at_a.0 at_a.1 (is_table signatures) at_a.2 in
@@ -185,13 +184,13 @@ module _ (tree : Tree) where
               few_fields = omega (arith, sym (length-map fields (λ (f : TypedField). f.name)) ∙ ap length field_names ∙ length-map (filter_map field_declaration object.members) (λ one. one.0), sound.few_fields);
               few_methods = omega (
                 arith,
-                sym (length-map methods (λ (m : TypedMethod). m.name)) ∙ ap length method_numbers ∙ length-map (names (filter_map method_declaration object.members)) (λ name. method_number (declaration_of (signature_table tree) name)),
+                sym (length-map methods (λ (m : TypedMethod). m.name)) ∙ ap length method_numbers ∙ length-map (names (filter_map method_declaration object.members)) number,
                 length-map (filter_map method_declaration object.members) (λ one. one.0),
                 sound.few_methods,
               );
               field_names = pairs _ (subst Apart (sym field_names) (names_apart (filter_map field_declaration object.members) sound.new_fields));
               method_names = pairs _ (subst Apart (sym method_numbers)
-                  (map_apart (λ name. method_number (declaration_of (signature_table tree) name)) (IsThere (signature_table tree)) one_name (names (filter_map method_declaration object.members)) names_there
+                  (map_apart number (IsThere (signature_table tree)) one_name (names (filter_map method_declaration object.members)) names_there
                   (names_apart (filter_map method_declaration object.members) sound.new_methods)));
               fields = All-from_recursion (IsField (numbered_form tree)) fields (given (field_form around) (IsField (numbered_form tree)) object.members
                   (weaker (IsSound (numbered_form tree) (form object) around agrees) (λ m. MatchOption (field_form around m) ⊤ (IsField (numbered_form tree))) (λ m is. is.0) object.members members_sound));
@@ -201,9 +200,9 @@ module _ (tree : Tree) where
 
     -- ---- the whole tree
 
-    objects_are : (objects : List ObjectDecl) → AllByRecursion (λ object. IsFaultless (surroundings_of tree object) object.members) objects → AllByRecursion IsSpelledObject objects
+    objects_are : (objects : List ObjectDecl) → AllByRecursion IsSoundObject objects → AllByRecursion IsSpelledObject objects
         → AllByRecursion (λ object. AllByRecursion (λ one. IsThere (signature_table tree) one.0) (filter_map method_signature object.members)) objects
-        → AllByRecursion (IsObject (numbered_form tree)) (map (λ object. object_form (surroundings_of tree object) object) objects)
+        → AllByRecursion (IsObject (numbered_form tree)) (map form objects)
     objects_are [] sound spelled there = tt
     objects_are (object ∷ objects) sound spelled there = (is_object object sound.0 spelled.0 there.0, objects_are objects sound.1 spelled.1 there.1)
 
@@ -214,7 +213,7 @@ module _ (tree : Tree) where
         let here = at_get (λ one. declaration_of (signature_table tree) one.0 ≡ Some one.1) (signature_table tree) n entry.0 (is_table signatures).own entry.1 in
         let at = numbered_at (signature_table tree) n entry.0 (is_table signatures) entry.1 in
         subst (IsMethodName (numbered_form tree)) (number_is entry.0.0 entry.0.1.0 entry.0.1.1 here ∙ at)
-        (at_get (λ one. IsMethodName (numbered_form tree) (method_number (declaration_of (signature_table tree) one.0))) (signature_table tree) n entry.0 all_used entry.1)
+        (at_get (λ one. IsMethodName (numbered_form tree) (number one.0)) (signature_table tree) n entry.0 all_used entry.1)
 
     names_spelled : AllByRecursion IsSpelledObject tree.objects → AllByRecursion IsName (names (signature_table tree))
     names_spelled spelled =
@@ -230,7 +229,7 @@ module _ (tree : Tree) where
     whole_is spelled apart =
         let there = signatures_of_each (λ one. IsThere (signature_table tree) one.0) tree.objects (all_there signatures) in
         record {
-          few_objects = omega (arith, few_objects, length-map tree.objects (λ object. object_form (surroundings_of tree object) object));
+          few_objects = omega (arith, few_objects, length-map tree.objects form);
           object_names = pairs _ (subst Apart (declared_names tree.objects) apart);
           objects = All-from_recursion (IsObject (numbered_form tree)) _ (objects_are tree.objects all spelled there);
           spelled = All-from_recursion IsName _ (names_spelled spelled);
@@ -239,7 +238,7 @@ module _ (tree : Tree) where
           signatures = length-map (signature_table tree) (λ one. one.1.1) ∙ sym (length-map (signature_table tree) (λ one. one.0));
         }
       where
-        declared_names : (objects : List ObjectDecl) → names (map object_declaration objects) ≡ map (λ (object : TypedObject). object.name) (map (λ object. object_form (surroundings_of tree object) object) objects)
+        declared_names : (objects : List ObjectDecl) → names (map object_declaration objects) ≡ map (λ (object : TypedObject). object.name) (map form objects)
         declared_names [] = refl
         declared_names (object ∷ objects) = ap (λ rest. object.name ∷ rest) (declared_names objects)
 
@@ -251,7 +250,7 @@ module _ (tree : Tree) where
       let c = flat_map (λ object. object_faults (surroundings_of tree object) object.members) tree.objects in
       let outside = none_front (a ++ b) c none in
       let few : length tree.objects ≤ MAX_OBJECTS = omega (arith, few_of what.TooManyObjects MAX_OBJECTS declarations (none_behind a b outside), length-map tree.objects object_declaration) in
-      let sound = weaker (λ object. object_faults (surroundings_of tree object) object.members ≡ []) (λ object. IsFaultless (surroundings_of tree object) object.members)
+      let sound = weaker (λ object. object_faults (surroundings_of tree object) object.members ≡ []) IsSoundObject
       (λ object e. is_faultless (surroundings_of tree object) object.members e) tree.objects (each_none (λ object. object_faults (surroundings_of tree object) object.members) tree.objects (none_behind (a ++ b) c none)) in
       whole_is few sound spelled (names_apart declarations (are_new what.TwoObjects declarations (none_front a b outside)))
 
