@@ -1,0 +1,4 @@
+pub mod BlockLaws
+pub mod ExchangeLaws
+pub mod RankLaws
+pub mod WrittenLaws
