@@ -1,6 +1,7 @@
 -- What a change of one account does to the shares and lists of all.
 use Rattle.std.proofs.Common.{◌≡◌, ◌≢◌, ℕ, zero, suc, ◌+◌, ◌≤◌, List, [], ◌∷◌, ◌++◌, set, refl, ap, sym, ◌∙◌, subst, ⊎_elim, arith, append_assoc}
-use Rattle.std.specs.Prelude.{IsPermutation, Option, Some, IfSome}
+use Rattle.std.specs.Prelude.{All, IsPermutation}
+use Rattle.std.proofs.lemmas.List.Elements.{All-nil, All-cons, All-head, All-tail}
 use Rattle.std.proofs.lemmas.List.Sorted.{IsPermutation-append_right, IsPermutation-append_comm}
 use mathlib.Core.Option.{some, some-injective, some-ne-none}
 use lib.ListN.{get_elem?}
@@ -16,6 +17,15 @@ append_nil (x ∷ xs) = ap (λ ys. x ∷ ys) (append_nil xs)
 -- two lists behind a first one change places
 swapped : {A : Type 0} (xs ys zs : List A) → IsPermutation ((xs ++ ys) ++ zs) ((xs ++ zs) ++ ys)
 swapped xs ys zs = subst (λ l. IsPermutation l ((xs ++ zs) ++ ys)) (sym (append_assoc xs ys zs)) (subst (IsPermutation (xs ++ (ys ++ zs))) (sym (append_assoc xs zs ys)) (IsPermutation-append_right xs (ys ++ zs) (zs ++ ys) (IsPermutation-append_comm ys zs)))
+
+-- what holds of each of two lists holds of each of the first, and of the second
+pub All-left : {X : Type 0} (P : X → Type 0) (xs ys : List X) → All P (xs ++ ys) → All P xs
+All-left P [] ys all = All-nil P
+All-left P (x ∷ xs) ys all = All-cons P x xs (All-head P x (xs ++ ys) all) (All-left P xs ys (All-tail P x (xs ++ ys) all))
+
+pub All-right : {X : Type 0} (P : X → Type 0) (xs ys : List X) → All P (xs ++ ys) → All P ys
+All-right P [] ys all = all
+All-right P (x ∷ xs) ys all = All-right P xs ys (All-tail P x (xs ++ ys) all)
 
 module _ {V : Type 0} where
   -- what holds of the account that is new, and of all others, holds of all
@@ -43,7 +53,7 @@ module _ {T : Type 0} where
   total_share-snoc [] w = omega arith
   total_share-snoc (v ∷ vs) w = let r = total_share-snoc vs w in omega arith
 
-  module _ (f : Account T → List T) where
+  module _ {X : Type 0} (f : Account T → List X) where
     -- an account with nothing more
     pub every-snoc : (vs : List (Account T)) (w : Account T) → f w ≡ [] → every f (vs ++ w ∷ []) ≡ every f vs
     every-snoc [] w e = ap (λ l. l ++ []) e
@@ -56,7 +66,7 @@ module _ {T : Type 0} where
     every-set_same (u ∷ vs) (suc j) v w at e = ap (λ l. f u ++ l) (every-set_same vs j v w at e)
 
     -- an account that has some more at its end
-    pub every-set_more : (vs : List (Account T)) (j : ℕ) (v w : Account T) (xs : List T) → get_elem? vs j ≡ some v → f w ≡ f v ++ xs → IsPermutation (every f (set vs j w)) (every f vs ++ xs)
+    pub every-set_more : (vs : List (Account T)) (j : ℕ) (v w : Account T) (xs : List X) → get_elem? vs j ≡ some v → f w ≡ f v ++ xs → IsPermutation (every f (set vs j w)) (every f vs ++ xs)
     every-set_more [] j v w xs at e = absurd (some-ne-none v (sym at))
     every-set_more (u ∷ vs) zero v w xs at e =
         let is : f w ≡ f u ++ xs = e ∙ ap (λ x. f x ++ xs) (sym (some-injective u v at)) in
@@ -68,9 +78,15 @@ module _ {T : Type 0} where
     pub every-set_none : (vs : List (Account T)) (j : ℕ) (v w : Account T) → get_elem? vs j ≡ some v → f w ≡ [] → IsPermutation (every f vs) (every f (set vs j w) ++ f v)
     every-set_none [] j v w at e = absurd (some-ne-none v (sym at))
     every-set_none (u ∷ vs) zero v w at e =
-        subst (λ (z : List T × List T). IsPermutation (z.0 ++ every f vs) ((z.1 ++ every f vs) ++ f v)) (λ i. (ap f (sym (some-injective u v at)) i, sym e i)) (IsPermutation-append_comm (f v) (every f vs))
+        subst (λ (z : List X × List X). IsPermutation (z.0 ++ every f vs) ((z.1 ++ every f vs) ++ f v)) (λ i. (ap f (sym (some-injective u v at)) i, sym e i)) (IsPermutation-append_comm (f v) (every f vs))
     every-set_none (u ∷ vs) (suc j) v w at e =
         subst (IsPermutation (f u ++ every f vs)) (sym (append_assoc (f u) (every f (set vs j w)) (f v))) (IsPermutation-append_right (f u) (every f vs) (every f (set vs j w) ++ f v) (every-set_none vs j v w at e))
+
+    -- what holds of each element of all holds of each of one
+    pub every-one : (P : X → Type 0) (vs : List (Account T)) (j : ℕ) (v : Account T) → get_elem? vs j ≡ some v → All P (every f vs) → All P (f v)
+    every-one P [] j v at all = absurd (some-ne-none v (sym at))
+    every-one P (u ∷ vs) zero v at all = subst (λ (y : Account T). All P (f y)) (some-injective u v at) (All-left P (f u) (every f vs) all)
+    every-one P (u ∷ vs) (suc j) v at all = every-one P vs j v at (All-right P (f u) (every f vs) all)
 
     -- where all others have nothing, one has all
     pub every-alone : (vs : List (Account T)) (j : ℕ) (v : Account T) → get_elem? vs j ≡ some v → ((i : ℕ) (u : Account T) → i ≢ j → get_elem? vs i ≡ some u → f u ≡ []) → every f vs ≡ f v

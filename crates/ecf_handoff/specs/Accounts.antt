@@ -1,11 +1,11 @@
 -- What a pass knows, and how its calls change it.
-use Rattle.std.specs.Prelude.{ℕ, ◌+◌, ◌-◌, ◌/◌, List, [], ◌∷◌, ◌++◌}
+use Rattle.std.specs.Prelude.{ℕ, ◌+◌, ◌-◌, ◌/◌, List, [], ◌∷◌, ◌++◌, map}
 use Rattle.ecf_handoff.specs.declared.account.Account.{Account}
 use Rattle.ecf_handoff.specs.declared.limits.TheConstants.{WHOLE_SHARE}
 
 module _ {T : Type 0} where
-  -- this share, and these items handed in and taken
-  abbrev pub account : ℕ → List T → List T → Account T
+  -- this share, and these items handed in and taken, with their places
+  abbrev pub account : ℕ → List (ℕ × T) → List (ℕ × T) → Account T
   account share handed taken = record { share = share; handed = handed; taken = taken }
 
   -- the first pass of a queue
@@ -28,18 +28,22 @@ module _ {T : Type 0} where
   abbrev pub spent_account : Account T
   spent_account = account 0 [] []
 
-  -- once this item was handed in
-  abbrev pub with_handed : Account T → T → Account T
-  with_handed a item = account a.share (a.handed ++ item ∷ []) a.taken
+  -- once this item was handed in at this place
+  abbrev pub with_handed : Account T → ℕ → T → Account T
+  with_handed a place item = account a.share (a.handed ++ (place, item) ∷ []) a.taken
 
-  -- once this item was taken
-  abbrev pub with_taken : Account T → T → Account T
-  with_taken a item = account a.share a.handed (a.taken ++ item ∷ [])
+  -- once this item, which has this place, was taken
+  abbrev pub with_taken : Account T → ℕ → T → Account T
+  with_taken a place item = account a.share a.handed (a.taken ++ (place, item) ∷ [])
 
-  -- the items that its calls handed in
-  abbrev pub handed_of : Account T → List T
+  -- what its calls handed in
+  abbrev pub handed_of : Account T → List (ℕ × T)
   handed_of a = a.handed
 
-  -- the items that its calls took
-  abbrev pub taken_of : Account T → List T
+  -- what its calls took
+  abbrev pub taken_of : Account T → List (ℕ × T)
   taken_of a = a.taken
+
+  -- the items alone
+  abbrev pub items_of : List (ℕ × T) → List T
+  items_of entries = map (λ e. e.1) entries

@@ -1,4 +1,4 @@
--- The rule of the queue, which holds between any two steps of any threads: what was handed in is what was taken and what the queue holds.
+-- The rule of the queue, which holds between any two steps of any threads: what was handed in is, in order, what was taken and what the queue holds.
 use Rattle.std.specs.Prelude.{◌≡◌, ℕ, ◌+◌, List, [], ◌∷◌, ◌++◌, All, IsPermutation}
 use mathlib.Core.Option.{some}
 use lib.ListN.{get_elem?}
@@ -6,6 +6,7 @@ use Rattle.crossbeam_queue.specs.Fifo.{Held}
 use Rattle.ecf_handoff.specs.declared.account.Account.{Account}
 use Rattle.ecf_handoff.specs.declared.limits.TheConstants.{PLACES, WHOLE_SHARE}
 use Rattle.ecf_handoff.specs.Accounts.{handed_of, taken_of}
+use Rattle.ecf_handoff.specs.Content.{with_places, IsContent}
 
 module _ {T : Type 0} where
   -- the shares of all passes together
@@ -14,21 +15,23 @@ module _ {T : Type 0} where
   total_share (a ∷ rest) = a.share + total_share rest
 
   -- a list of each pass, one behind the other
-  abbrev pub every : (Account T → List T) → List (Account T) → List T
+  abbrev pub every : {X : Type 0} → (Account T → List X) → List (Account T) → List X
   every list_of [] = []
   every list_of (a ∷ rest) = list_of a ++ every list_of rest
 
   module _ (fits : T → Type 0) where
-    -- the shares are one whole, each item that was handed in was taken or is in the queue, as often, a pass with no share did neither, and all in the queue fit
+    -- the shares are one whole, all that was handed in has its place, the first of these were taken and the others are in the queue, a pass with no share did neither, and all in the queue fit
     pub record IsBalanced (items : List T) (accounts : List (Account T)) : Type 0 where
       pub whole : total_share accounts ≡ WHOLE_SHARE
-      pub each_once : IsPermutation (every handed_of accounts) (every taken_of accounts ++ items)
+      pub gone : List T
+      pub handed : IsPermutation (every handed_of accounts) (with_places (gone ++ items))
+      pub taken : IsPermutation (every taken_of accounts) (with_places gone)
       pub idle : (j : ℕ) (a : Account T) → get_elem? accounts j ≡ some a → a.share ≡ 0 → (a.handed ≡ []) × (a.taken ≡ [])
       pub fit : All fits items
 
-    -- what a pass knows of the items in the queue: they fit, and where it has the whole share, what it handed in is what it took and these
+    -- what a pass knows of the items in the queue: they fit, and where it has the whole share, they are what it handed in and didn't take, in order
     abbrev pub Knows : Account T → List T → Type 0
-    Knows a items = All fits items × (a.share ≡ WHOLE_SHARE → IsPermutation a.handed (a.taken ++ items))
+    Knows a items = All fits items × (a.share ≡ WHOLE_SHARE → IsContent a items)
 
     -- at a moment of the call all places were taken
     abbrev pub WasFull : Account T → Type 0

@@ -1,3 +1,4 @@
 pub mod Accounts
 pub mod Balance
+pub mod Content
 pub mod Handoffs

@@ -8,16 +8,16 @@ use std::marker::PhantomData;
 pub struct Account<T> {
     /// Its part of the whole share.
     pub share: u64,
-    /// The items that its calls handed in, in order.
-    pub handed: LinkedList<T>,
-    /// The items that its calls took, in order.
-    pub taken: LinkedList<T>,
+    /// The items that its calls handed in, in order, each with its place among all that were handed in.
+    pub handed: LinkedList<(u64, T)>,
+    /// The items that its calls took, in order, each with its place.
+    pub taken: LinkedList<(u64, T)>,
 }
 
 /// A thread's part in one queue. It has no bytes, and comes from `Handoff::new` or from another pass.
 pub type Pass<T> = crossbeam_queue::Pass<T, Account<T>>;
 
-/// The rule: what was handed in is what was taken and what the queue holds.
+/// The rule: what was handed in is, in order, what was taken and what the queue holds.
 pub struct HandoffRule<J> {
     job: PhantomData<J>,
 }
@@ -56,10 +56,9 @@ pub struct HandIn<J> {
 }
 
 impl<T, J: Job<T>> Outcome<T, Account<T>> for HandIn<J> {
-    ghost use Rattle.std.specs.Prelude.{◌≡◌};
-    ghost use Rattle.ecf_handoff.specs.Accounts.{with_handed};
+    ghost use Rattle.ecf_handoff.specs.Content.{HasHanded};
 
-    ghost then = { λ old item new. new ≡ with_handed old item };
+    ghost then = { HasHanded };
 }
 
 impl<T, J: Job<T>> Lesson<T, Account<T>> for HandIn<J> {
@@ -74,10 +73,9 @@ pub struct TakeOut<J> {
 }
 
 impl<T, J: Job<T>> Outcome<T, Account<T>> for TakeOut<J> {
-    ghost use Rattle.std.specs.Prelude.{◌≡◌};
-    ghost use Rattle.ecf_handoff.specs.Accounts.{with_taken};
+    ghost use Rattle.ecf_handoff.specs.Content.{HasTaken};
 
-    ghost then = { λ old item new. (new ≡ with_taken old item) × J.fits item };
+    ghost then = { λ old item new. HasTaken old item new × J.fits item };
 }
 
 impl<T, J: Job<T>> Lesson<T, Account<T>> for TakeOut<J> {

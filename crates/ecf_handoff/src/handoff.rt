@@ -1,7 +1,8 @@
 //! The queue with its passes.
-ghost use Rattle.std.specs.Prelude.{◌≡◌, ◌+◌, ◌-◌, ◌/◌, ◌<◌, ◌≤◌, [], ◌∷◌, ◌++◌, All, IfOk, IfErr, IfSome, IfNone, vec_len, IsPermutation};
+ghost use Rattle.std.specs.Prelude.{◌≡◌, ◌+◌, ◌-◌, ◌/◌, ◌<◌, ◌≤◌, [], ◌∷◌, ◌++◌, All, IfOk, IfErr, IfSome, IfNone, List, vec_len, IsPermutation};
 ghost use Rattle.crossbeam_queue.specs.Passes.{ruled_capacity};
-ghost use Rattle.ecf_handoff.specs.Accounts.{first_account, kept_account, given_account, united_account, with_handed, with_taken};
+ghost use Rattle.ecf_handoff.specs.Accounts.{first_account, kept_account, given_account, united_account, items_of};
+ghost use Rattle.ecf_handoff.specs.Content.{IsContent, HasHanded, HasTaken};
 ghost use Rattle.ecf_handoff.specs.declared.limits.TheConstants.{PLACES, WHOLE_SHARE};
 ghost use Rattle.ecf_handoff.specs.Balance.{WasFull, WasEmpty};
 
@@ -57,7 +58,7 @@ impl<T: Drop, J: Job<T>> Handoff<T, J> {
     pub fn hand<R: Wait>(&self, rt: &R, mut pass: Pass<T>, item: T) -> Result<Pass<T>, (Pass<T>, T)>
         requires pass { IsPass self.now pass }
         requires item { J.fits item }
-        ensures handed { IfOk result (λ after. IsPass self.now after × (account_of after ≡ with_handed (account_of pass) item)) }
+        ensures handed { IfOk result (λ after. IsPass self.now after × HasHanded (account_of pass) item (account_of after)) }
         ensures refused { IfErr result (λ back. IsPass self.now back.0 × (account_of back.0 ≡ account_of pass) × (back.1 ≡ item)) }
         ensures full { IfErr result (λ _. WasFull J.fits (account_of pass)) }
     {
@@ -71,7 +72,7 @@ impl<T: Drop, J: Job<T>> Handoff<T, J> {
     pub fn take<R: Wait>(&self, rt: &R, mut pass: Pass<T>) -> (Pass<T>, Option<T>)
         requires { IsPass self.now pass }
         ensures pass { IsPass self.now result.0 }
-        ensures taken { IfSome result.1 (λ item. J.fits item × (account_of result.0 ≡ with_taken (account_of pass) item)) }
+        ensures taken { IfSome result.1 (λ item. J.fits item × HasTaken (account_of pass) item (account_of result.0)) }
         ensures none { IfNone result.1 (account_of result.0 ≡ account_of pass) }
         ensures empty { IfNone result.1 (WasEmpty J.fits (account_of pass)) }
     {
@@ -91,8 +92,11 @@ impl<T: Drop, J: Job<T>> Handoff<T, J> {
         ensures at_most { IfOk result (λ left. vec_len left ≤ PLACES) }
 
         // By the pass that has the whole share, so that there is no other.
+        ensures in_order { IfOk result (λ left. (account_of pass).share ≡ WHOLE_SHARE → IsContent (account_of pass) left.items) }
+        ensures nothing_else { IfOk result (λ left. (account_of pass).share ≡ WHOLE_SHARE →
+            (items : List T) → IsContent (account_of pass) items → items ≡ left.items) }
         ensures each_once { IfOk result (λ left. (account_of pass).share ≡ WHOLE_SHARE →
-            IsPermutation (account_of pass).handed ((account_of pass).taken ++ left.items)) }
+            IsPermutation (items_of (account_of pass).handed) (items_of (account_of pass).taken ++ left.items)) }
         ensures no_memory { IfErr result (λ refused. (refused.0 ≡ self) × (refused.1 ≡ pass)) }
     {
         let mut left = Vec::new(alloc);

@@ -1,6 +1,6 @@
 //! A queue that hands items from thread to thread. Each thread owns a pass, which knows its share of the queue and the
-//! items that went through its own calls; the pass with the whole share knows that each item which was handed in was
-//! taken once, or is left. It is told in pictures in docs/threads.md.
+//! items that went through its own calls, each with its place; the pass with the whole share knows that what was handed in
+//! is, in order, what was taken and what is left. It is told in pictures in docs/threads.md.
 #![tactic(auto)]
 
 mod account;
