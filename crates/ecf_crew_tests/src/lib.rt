@@ -2,6 +2,8 @@
 //! common test of the turn and the queue, and the example of docs/threads.md.
 #![tactic(auto)]
 
+#[cfg(test)]
+mod queue_tests;
 mod rounds;
 mod sum;
 #[cfg(test)]

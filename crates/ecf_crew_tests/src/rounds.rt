@@ -3,6 +3,8 @@ ghost use Rattle.std.specs.Prelude.{◌≡◌, ◌+◌, ◌<◌, ◌≤◌, ◌+
 ghost use mathlib.Core.List.{IsPrefix};
 ghost use Rattle.ecf_turnstile.specs.Histories.{StandIn, AreApart};
 ghost use Rattle.ecf_turnstile.specs.Seats.{own_of};
+ghost use Rattle.ecf_handoff.specs.Accounts.{items_of};
+ghost use Rattle.ecf_handoff.specs.Content.{IsContent};
 ghost use Rattle.ecf_handoff.specs.Handoffs.{account_of};
 ghost use Rattle.ecf_crew_tests.specs.Sums.{is_legal};
 
@@ -51,9 +53,10 @@ pub fn round<L: Ledger + Send + Sync, R: Threads + Wait + Sync>(
     ensures places { IfOk result (λ done. StandIn done.sum.entries.items (own_of done.seat) × AreApart (own_of done.seat)) }
     ensures counts { IfOk result (λ done. length done.sum.entries.items ≡ length sum.entries.items + length (own_of done.seat)) }
 
-    // Each number that was handed in was taken once, or is left.
-    ensures each_once { IfOk result (λ done.
-        let account = account_of done.closing.value in IsPermutation account.handed (account.taken ++ done.left.items)) }
+    // Each number that was handed in was taken once, or is left, and what is left is in the queue's order.
+    ensures each_once { IfOk result (λ done. let account = account_of done.closing.value in
+        IsPermutation (items_of account.handed) (items_of account.taken ++ done.left.items)) }
+    ensures in_order { IfOk result (λ done. IsContent (account_of done.closing.value) done.left.items) }
     ensures no_memory { IfErr result (λ refused. (refused.0.limit ≡ sum.limit) × IsPrefix sum.entries.items refused.0.entries.items) }
 {
     let mut sum = sum;

@@ -1,14 +1,14 @@
 -- Places of items, and what a queue holds.
-use Rattle.std.proofs.Common.{◌≡◌, ℕ, zero, suc, ◌+◌, ◌<◌, ◌≤◌, List, [], ◌∷◌, ◌++◌, length, take, drop, get_or, map, refl, ap, sym, ◌∙◌, subst, arith, append_assoc, length-append}
+use Rattle.std.proofs.Common.{◌≡◌, ℕ, suc, ◌+◌, ◌<◌, ◌≤◌, List, [], ◌∷◌, ◌++◌, length, drop, get_or, refl, ap, sym, ◌∙◌, subst, arith, append_assoc, length-append}
 use Rattle.std.specs.Prelude.{All, Contains, IsPermutation}
 use Rattle.std.specs.List.{enumerate_from}
 use Rattle.std.proofs.lemmas.List.{append-nil, nil_from_length, same_lists, get_or_default}
 use Rattle.std.proofs.lemmas.List.FromFn.{length-enumerate_from, get_or-enumerate_from}
 use Rattle.std.proofs.lemmas.List.Elements.{All-nil, All-cons, All-push, Contains-get_or}
-use Rattle.std.proofs.lemmas.List.Sorted.{IsPermutation-sym, IsPermutation-trans, IsPermutation-map, IsPermutation-append_left, All-permutation, Contains-permutation, length_permutation}
+use Rattle.std.proofs.lemmas.List.Sorted.{IsPermutation-sym, IsPermutation-trans, IsPermutation-map, IsPermutation-append_left, Contains-permutation, length_permutation}
 use Rattle.ecf_handoff.specs.declared.account.Account.{Account}
 use Rattle.ecf_handoff.specs.declared.limits.TheConstants.{WHOLE_SHARE}
-use Rattle.ecf_handoff.specs.Accounts.{with_taken, items_of}
+use Rattle.ecf_handoff.specs.Accounts.{items_of}
 use Rattle.ecf_handoff.specs.Content.{with_places, IsContent, HasTaken}
 use Rattle.ecf_handoff.specs.Balance.{Knows}
 use Rattle.crossbeam_queue.specs.Fifo.{Held}
