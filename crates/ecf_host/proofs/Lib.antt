@@ -1,4 +1,3 @@
-pub mod Fields
 pub mod StreamLaws
 pub mod JournalLaws
 pub mod DeliveryLaws

@@ -1,6 +1,7 @@
 -- Small contracts can be run, and the lines for them read.
-use Rattle.std.proofs.Common.{◌≡◌, ℕ, zero, suc, Bool, true, ◌&&◌, List, [], ◌∷◌, All, ap, sym, subst, ◌∙◌, arith, Some}
+use Rattle.std.proofs.Common.{◌≡◌, ℕ, zero, suc, Bool, true, ◌&&◌, ◌≤◌, List, [], ◌∷◌, length, All, ap, sym, subst, ◌∙◌, arith, Some}
 use Rattle.std.proofs.lemmas.List.Sums.{list_all-from_AllPass}
+use Rattle.ecf_lang.specs.declared.limits.TheConstants.{MAX_FIELDS}
 use Rattle.ecf_lang.specs.declared.tree.Op.{Op}
 use Rattle.ecf_lang.specs.declared.tree.Tree.{Tree}
 use Rattle.ecf_lang.specs.declared.typed.Typed.{Typed}
@@ -8,8 +9,8 @@ use Rattle.ecf_lang.specs.declared.typed.Place.TheVariants as place
 use Rattle.ecf_lang.specs.declared.typed.TypedExpr.{TypedExpr}
 use Rattle.ecf_lang.specs.declared.typed.TypedStmt.{TypedStmt, TypedStmt-F}
 use Rattle.ecf_lang.specs.declared.typed.TypedBlock.{TypedBlock, TypedBlock-F, roll-TypedBlock, out-roll-TypedBlock}
-use Rattle.ecf_lang.specs.Genesis.{genesis}
-use Rattle.ecf_small.specs.Form.{IsAdded, HasSums, HasForm, BeginsEmpty, SmallLayer, IsSmallStmt, IsSmall}
+use Rattle.ecf_heap.specs.Numbered.{IsWithinLimits}
+use Rattle.ecf_small.specs.Form.{IsAdded, HasSums, HasForm, SmallLayer, IsSmallStmt, IsSmall}
 use Rattle.ecf_small.specs.Small.{typed_of}
 use Rattle.ecf_interp.specs.Built.{is_built_expr, is_built_part, is_built_stmt, is_field, is_add, IsBuilt, IsBuiltStmt, IsBuiltBlock, IsBuiltObject}
 use Rattle.ecf_interp.specs.BuiltForms.{NumbersAreBuilt, PlainNamesAreBuilt, SumsAreBuilt}
@@ -51,6 +52,13 @@ module _ (numbers : NumbersAreBuilt) (names : PlainNamesAreBuilt) (sums : SumsAr
 
   pub small_is_built : HasForm → (tree : Tree) (typed : Typed) → typed_of tree ≡ Some typed → IsBuilt typed
   small_is_built form tree typed is = built typed (form tree typed is)
+
+-- a small contract has one object with one field
+within_limits : (typed : Typed) → IsSmall typed → IsWithinLimits typed
+within_limits typed small = subst IsWithinLimits (sym small.form) (record { few_objects = omega arith; few_fields = only (λ object. length object.fields ≤ MAX_FIELDS) _ (omega arith) })
+
+pub small_is_within_limits : HasForm → (tree : Tree) (typed : Typed) → typed_of tree ≡ Some typed → IsWithinLimits typed
+small_is_within_limits form tree typed is = within_limits typed (form tree typed is)
 
 pub small_is_numbered : HasForm → (tree : Tree) (typed : Typed) → typed_of tree ≡ Some typed → IsNumbered typed
 small_is_numbered form tree typed is = numbered typed (form tree typed is)

@@ -1,9 +1,9 @@
 //! The contract file: fetched from the shelf, cut into tokens, read as a tree and built.
 
-ghost use Rattle.std.specs.Prelude.{◌≡◌, ◌≤◌, [], IfOk, IfErr, Ok, Err, length};
+ghost use Rattle.std.specs.Prelude.{◌≡◌, ◌≤◌, IfOk, IfErr, Ok, Err, length};
 ghost use Rattle.ecf_grammar.specs.Reading.{Reads};
+ghost use Rattle.ecf_heap.specs.Numbered.{IsWithinLimits};
 ghost use Rattle.ecf_interp.specs.Built.{IsBuilt};
-ghost use Rattle.ecf_lang.specs.Genesis.{genesis};
 ghost use Rattle.ecf_lines.specs.Line.{IsNumbered};
 ghost use Rattle.ecf_host.specs.Contract.{fetched, lexed, parsed, built, contract};
 ghost use Rattle.ecf_host.specs.Failures.{IfRefused, OnNoMemory};
@@ -44,7 +44,7 @@ pub fn contract_of(alloc: Global, text: &[u8]) -> Result<Typed, Failure>
     ensures refused { IfErr result (λ failure. IfRefused failure (λ refusal. contract text.now (Err refusal))) }
     ensures runs { IfOk result IsBuilt }
     ensures numbered { IfOk result IsNumbered }
-    ensures blank { IfOk result (λ typed. genesis typed ≡ []) }
+    ensures limits { IfOk result IsWithinLimits }
 {
     let tokens = tokens_of(alloc, text)?;
     let tree = tree_of(alloc, text, tokens.as_slice())?;
@@ -72,13 +72,13 @@ fn tree_of(alloc: Global, text: &[u8], tokens: &[Token]) -> Result<Tree, Failure
 }
 
 // The numbered form of a tree, and what holds of it.
-#[tactic(auto, using(crate::proofs::SmallLaws::small_is_built, crate::proofs::SmallLaws::small_is_numbered))]
+#[tactic(auto, using(crate::proofs::SmallLaws::small_is_built, crate::proofs::SmallLaws::small_is_numbered, crate::proofs::SmallLaws::small_is_within_limits))]
 fn typed_of(alloc: Global, tree: &Tree) -> Result<Typed, Failure>
     ensures typed { IfOk result (λ typed. built tree.now (Ok typed)) }
     ensures refused { IfErr result (λ failure. IfRefused failure (λ refusal. built tree.now (Err refusal))) }
     ensures runs { IfOk result IsBuilt }
     ensures numbered { IfOk result IsNumbered }
-    ensures blank { IfOk result (λ typed. genesis typed ≡ []) }
+    ensures limits { IfOk result IsWithinLimits }
 {
     small_contracts();
     built_forms();

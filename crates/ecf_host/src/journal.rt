@@ -2,12 +2,12 @@
 
 ghost use Rattle.std.specs.Prelude.{◌≡◌, [], ◌∷◌, IfOk, All, None, length};
 ghost use Rattle.ecf_lang.specs.Fits.{Fits};
-ghost use Rattle.ecf_lang.specs.Genesis.{genesis};
+ghost use Rattle.ecf_heap.specs.Numbered.{IsWithinLimits};
 ghost use Rattle.ecf_interp.specs.Built.{IsBuilt};
 ghost use Rattle.ecf_verdicts.specs.Receipts.{receipt_of};
 ghost use Rattle.ecf_journals.specs.Journals.{IsJournal};
 
-use crate::store::Fields;
+use ecf_heap::genesis;
 use ecf_interp::laws::steps_are_of_the_first_invocation;
 use ecf_interp::run;
 use ecf_lang::receipt::{Entry, Receipt};
@@ -26,13 +26,13 @@ pub fn journal_of(alloc: Global, typed: &Typed, tx: Tx) -> Result<Vec<u8>, Alloc
     requires fits { Fits typed.now tx }
     requires one_call { length tx.calls ≡ 1 }
     requires built { IsBuilt typed.now }
-    requires blank { genesis typed.now ≡ [] }
+    requires limits { IsWithinLimits typed.now }
     ensures { IfOk result (λ text. IsJournal typed.now (tx ∷ []) None text.items) }
 {
     steps_are_of_the_first_invocation();
     single_approved();
     vetoed_where_not_free();
-    let mut fields = Fields::new(alloc);
+    let mut fields = genesis(alloc, typed)?;
     let run = run(alloc, typed, &fields, &tx)?;
     fields.write(run.writes.as_slice())?;
     let entry = Entry {

@@ -8,7 +8,6 @@ mod journal;
 mod laws;
 mod refusal;
 mod run;
-mod store;
 mod stream;
 mod top;
 mod words;

@@ -1,6 +1,0 @@
--- The pairs so far and those to come are the map's.
-use Rattle.std.proofs.Common.{◌≡◌, ◌++◌}
-use Rattle.ecf_host.proofs.store.Fields.cells.Given as goal
-
-abbrev pub invariant-loop-cell : goal.invariant-loop-cell
-invariant-loop-cell l = l.cells.items ++ l.cell-iterator ≡ l.self
