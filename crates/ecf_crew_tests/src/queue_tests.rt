@@ -1,6 +1,7 @@
 //! What no clause of the queue says where several passes are out: that it has 32 places by whichever pass, and that
 //! calls far from full and empty aren't refused.
-ghost use Rattle.std.specs.Prelude.{◌≡◌, ◌≤◌, All, IfOk, IfSome};
+ghost use Rattle.std.specs.Prelude.{◌≡◌, ◌≤◌, IfOk};
+ghost use Rattle.std.specs.Thread.{IsSync};
 ghost use Rattle.ecf_handoff.specs.Handoffs.{IsPass, account_of};
 
 use crate::tools::Queue;
@@ -74,33 +75,12 @@ fn a_split_pass_finds_32_places_and_the_other_their_items(rt: HostRuntime) -> Re
     Ok(())
 }
 
-/// A thread's pass, and how many of its calls were refused or found nothing.
-#[derive(Drop)]
-struct Worker {
-    pass: Option<Pass<u64>>,
-    failures: u64,
-}
-
-fn worker_with(queue: &Queue, pass: Pass<u64>) -> Worker
+/// Hands a number in and takes one, this many times. How many of the calls were refused or found nothing.
+fn failures_of<R: Wait>(rt: &R, queue: &Queue, pass: Pass<u64>, times: u64) -> u64
     requires { IsPass queue.now pass }
-    ensures { IfSome result.pass (IsPass queue.now) }
 {
-    Worker {
-        pass: Some(pass),
-        failures: 0,
-    }
-}
-
-/// Hands a number in and takes one, this many times.
-fn exchange<R: Wait>(rt: &R, queue: &Queue, worker: &mut Worker, times: u64)
-    requires { IfSome worker.old.pass (IsPass queue.now) }
-    ensures { IfSome worker.new.pass (IsPass queue.now) }
-{
-    let Some(pass) = worker.pass.take() else {
-        return;
-    };
     let mut pass = pass;
-    let mut failures = worker.failures;
+    let mut failures = 0u64;
     for i in 0..times {
         match queue.hand(rt, pass, i % 1000) {
             Ok(after) => pass = after,
@@ -115,29 +95,11 @@ fn exchange<R: Wait>(rt: &R, queue: &Queue, worker: &mut Worker, times: u64)
             failures = failures.saturating_add(1);
         }
     }
-    worker.pass = Some(pass);
-    worker.failures = failures;
+    failures
 }
 
-/// Each on its own thread.
-fn exchange_all<R: Threads + Wait + Sync>(rt: &R, queue: &Queue, workers: &mut [Worker], times: u64)
-    requires { All (λ worker. IfSome worker.pass (IsPass queue.now)) workers.old }
-    ensures { All (λ worker. IfSome worker.pass (IsPass queue.entry.now)) workers.new }
-{
-    let threads = workers.len();
-    if threads > 0 {
-        thread::for_each_mut(
-            rt,
-            workers,
-            threads,
-            &|_, worker| { exchange(rt, queue, worker, times) },
-        );
-    }
-}
-
-/// Four threads with a queue of 8 numbers, each of which hands in before it takes: at any moment there are 8 to 12. How
-/// many calls were refused or found nothing.
-fn failures_of_four<R: Threads + Wait + Sync>(
+/// Two threads with a queue of 8 numbers, each of which hands in before it takes: at any moment there are 8 to 10.
+fn failures_of_two<R: Threads + Wait + Sync>(
     rt: &R,
     alloc: Global,
     times: u64,
@@ -145,23 +107,21 @@ fn failures_of_four<R: Threads + Wait + Sync>(
     let (queue, pass) = Queue::new(alloc)?;
     let (pass, _none) = fill(rt, &queue, pass, 8);
     let (first, second) = queue.split(pass);
-    let (first, third) = queue.split(first);
-    let (second, fourth) = queue.split(second);
-    let mut workers = Vec::new(alloc);
-    workers.push(worker_with(&queue, first))?;
-    workers.push(worker_with(&queue, second))?;
-    workers.push(worker_with(&queue, third))?;
-    workers.push(worker_with(&queue, fourth))?;
-    exchange_all(rt, &queue, workers.as_mut_slice(), times);
-    Ok(
-        workers
-            .iter()
-            .fold(0u64, |sum, worker| sum.saturating_add(worker.failures)),
-    )
+    let queue = &queue;
+    let (ours, theirs) = thread::join(
+        rt,
+        move || -> u64
+            requires { IsSync R.row × IsPass queue.now first }
+        { failures_of(rt, queue, first, times) },
+        move || -> u64
+            requires { IsSync R.row × IsPass queue.now second }
+        { failures_of(rt, queue, second, times) },
+    );
+    Ok(ours.saturating_add(theirs))
 }
 
 #[test]
 fn far_from_full_and_empty_no_call_fails(rt: HostRuntime) -> Result<(), Fail> {
-    assert_eq!(rt; failures_of_four(&rt, rt.alloc(), 5_000)?, 0);
+    assert_eq!(rt; failures_of_two(&rt, rt.alloc(), 10_000)?, 0);
     Ok(())
 }
