@@ -2,7 +2,8 @@
 use Rattle.std.proofs.Common.{◌≡◌, ◌≢◌, ℕ, zero, suc, ◌+◌, ◌*◌, ◌/◌, ◌%◌, ◌^◌, ◌<◌, ◌≤◌, max, Bool, true, false, ◌||◌, ◌==◌, List, length, get_or, bit_and, bit_or, slice_set, refl, sym, ap, ◌∙◌, arith, ◌⊎◌, ◌-◌, inl, inr, get_or-set_other, get_or-set_same, ◌&&◌, not, min}
 use Rattle.std.specs.Int.{bit_at, trailing_zeros}
 use Rattle.std.proofs.Common.{w64}
-use Rattle.std.proofs.lemmas.Bool.{eqb-true, eq-eqb, ne_eqb, cases_eq, cases_lt, both_ways}
+use Rattle.std.proofs.lemmas.Bool.{eqb-true, eq-eqb, ne_eqb, cases_eq, cases_lt, cases_Bool, both_ways}
+use Rattle.std.proofs.lemmas.List.{get_or_past}
 use Rattle.std.proofs.lemmas.Nat.{and_le_l}
 use Rattle.std.proofs.Math.Nat.{div-add-mod}
 use Rattle.std.proofs.lemmas.Nat.Bits.{bit_at-zero, shr_and_one, bit_at_or, bit_at-lt, bit_at_set_same, bit_at_set_other, bit_at_clear_same, bit_at_clear_other, bit_at_and, bit_at-trailing_zeros}
@@ -80,15 +81,36 @@ Union-next first other now k v w h e f j = record {
   rest = λ m l. (let n : m ≢ k = omega (arith, l) in get_or-set_other now k m (bit_or v w) 0 n ∙ j.rest m (omega (arith, l)));
 }
 
-pub Union-member : (first other now : List ℕ) (i : ℕ) → Union first other now (length other) → is_member now i ≡ (is_member first i || is_member other i)
+-- words up to the end of one of the two, where the first has room for all members of the other
+pub Union-member : (first other now : List ℕ) (i k : ℕ) → k ≡ min (length first) (length other) → (is_member other i ≡ true → i / 64 < length first) → Union first other now k → is_member now i ≡ (is_member first i || is_member other i)
 unfolding is_member
-Union-member first other now i j = elim (cases_lt (i / 64) (length other)) [
+Union-member first other now i k e room j = elim (cases_lt (i / 64) k) [
   | inl l ↦ member_or first other now i (j.done (i / 64) l)
-  | inr g ↦ past_other g
+  | inr g ↦ ap (λ x. bit_at x (i % 64) == 1) (j.rest (i / 64) g) ∙ sym (or_false _ _ (none g))
 ]
   where
-    past_other : length other ≤ i / 64 → is_member now i ≡ (is_member first i || is_member other i)
-    past_other g = ap (λ x. bit_at x (i % 64) == 1) (j.rest (i / 64) g) ∙ sym (or_false _ _ (member_past other i g))
+    none : k ≤ i / 64 → is_member other i ≡ false
+    none g = elim (cases_lt (i / 64) (length other)) [
+      | inl l ↦ elim (cases_Bool (is_member other i)) [
+        | inl y ↦ (let r : i / 64 < length first = room y in absurd (omega (arith, g, e, l, r)))
+        | inr n ↦ n
+      ]
+      | inr past ↦ member_past other i past
+    ]
+
+-- a member stands in one of the words
+pub member_within : (a : List ℕ) (i : ℕ) → is_member a i ≡ true → i / 64 < length a
+member_within a i h = elim (cases_lt (i / 64) (length a)) [ inl l ↦ l | inr g ↦ absurd (both_ways _ (member_past a i g) h) ]
+
+-- words that were filled up with 0
+pub filled : (old new : List ℕ) (n most : ℕ) → length old ≡ n → length new ≡ most → n ≤ most → ((k d : ℕ) → k < most → k < n → get_or new k d ≡ get_or old k d) → ((k d : ℕ) → n ≤ k → k < most → get_or new k d ≡ 0) → (k : ℕ) → get_or new k 0 ≡ get_or old k 0
+filled old new n most size len less same zero_there k = elim (cases_lt k n) [
+  | inl l ↦ same k 0 (omega (arith, l, less)) l
+  | inr g ↦ elim (cases_lt k most) [
+    | inl l ↦ zero_there k 0 g l ∙ sym (get_or_past old k 0 (omega (arith, size, g)))
+    | inr m ↦ get_or_past new k 0 (omega (arith, len, m)) ∙ sym (get_or_past old k 0 (omega (arith, size, g)))
+  ]
+]
 
 -- a word without one bit
 abbrev without_bit : ℕ → ℕ → ℕ

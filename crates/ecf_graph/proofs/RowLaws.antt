@@ -1,5 +1,5 @@
 -- Rows in a list.
-use Rattle.std.proofs.Common.{◌≡◌, ℕ, zero, suc, ◌+◌, Bool, true, false, List, [], ◌∷◌, ◌++◌, refl, sym, ◌∙◌, add-one}
+use Rattle.std.proofs.Common.{◌≡◌, ℕ, zero, suc, ◌+◌, Bool, true, false, List, [], ◌∷◌, ◌++◌, length, get_or, refl, sym, ◌∙◌, add-one}
 use Rattle.std.proofs.lemmas.List.{append-nil}
 use Rattle.ecf_graph.specs.Rows.{is_member}
 use Rattle.ecf_graph.specs.RowLemmas.{member_none}
@@ -12,6 +12,12 @@ in_row_more [] r e zero i = e i ∙ sym (member_none i)
 in_row_more [] r e (suc k) i = refl
 in_row_more (x ∷ xs) r e zero i = refl
 in_row_more (x ∷ xs) r e (suc k) i = in_row_more xs r e k i
+
+pub words_more : (rows : List (List ℕ)) (r : List ℕ) → length r ≡ 0 → (k : ℕ) → length (get_or (rows ++ r ∷ []) k []) ≡ length (get_or rows k [])
+words_more [] r e zero = e
+words_more [] r e (suc k) = refl
+words_more (x ∷ xs) r e zero = refl
+words_more (x ∷ xs) r e (suc k) = words_more xs r e k
 
 -- one number more
 pub below_step : (p : ℕ → Bool) (n : ℕ) → p n ≡ true → numbers_below p (n + 1) ≡ numbers_below p n ++ n ∷ []

@@ -1,6 +1,6 @@
 //! Sets of numbers as rows of bits.
 
-ghost use Rattle.std.specs.Prelude.{◌≡◌, ◌==◌, ◌<◌, ◌≤◌, ◌+◌, ◌||◌, ◌&&◌, not, true, false, ℕ, List, [], length, IfOk, OnOk, OnErr, slice_index, vec_len, if◌then◌else◌};
+ghost use Rattle.std.specs.Prelude.{◌≡◌, ◌==◌, ◌<◌, ◌/◌, ◌||◌, ◌&&◌, not, true, false, max, ℕ, List, length, IfOk, OnOk, OnErr, is_ok, if◌then◌else◌};
 ghost use Rattle.ecf_graph.specs.Rows.{is_member};
 
 use std::alloc::{AllocError, Global};
@@ -18,21 +18,11 @@ impl Model for Row {
     ghost view = { λ r. r.words.items };
 }
 
-/// The words are at least so many, the new ones 0.
-fn extend(words: &mut Vec<u64>, most: usize) -> Result<(), AllocError>
-    ensures same { (k : ℕ) → slice_index words.new.items k ≡ slice_index words.old.items k }
-    ensures long { OnOk result (most ≤ vec_len words.new) }
-{
-    while words.len() < most {
-        words.push(0)?;
-    }
-    Ok(())
-}
-
 impl Row {
     /// The empty set; it takes no memory.
     pub fn new(alloc: Global) -> Row
-        ensures { (i : ℕ) → is_member result i ≡ false }
+        ensures none { (i : ℕ) → is_member result i ≡ false }
+        ensures words { length result ≡ 0 }
     {
         Row {
             words: Vec::new(alloc),
@@ -55,14 +45,52 @@ impl Row {
         at < self.words.len() && (self.words[at] >> (i % 64)) & 1 == 1
     }
 
+    /// How many words it has. There is room for each number below 64 times as many.
+    pub fn word_count(&self) -> usize
+        ensures { result ≡ length self.now }
+    {
+        self.words.len()
+    }
+
+    /// Makes it at least so many words. Its members stay, and for want of memory it has as many words as before.
+    pub fn widen(&mut self, most: usize) -> Result<(), AllocError>
+        ensures same { (k : ℕ) → is_member self.new k ≡ is_member self.old k }
+        ensures words { length self.new ≡ (if is_ok result then max most (length self.old) else length self.old) }
+    {
+        if self.words.len() < most {
+            self.words.resize(most, 0)?;
+        }
+        Ok(())
+    }
+
+    /// Puts in a number for which there is room.
+    pub fn put(&mut self, i: u16)
+        requires { i / 64 < length self.old }
+        ensures put { (k : ℕ) → is_member self.new k ≡ (is_member self.old k || (k == i)) }
+        ensures words { length self.new ≡ length self.old }
+    {
+        self.words[(i / 64) as usize] |= 1u64 << (i % 64);
+    }
+
+    /// Puts in all members of the other, for which there is room.
+    pub fn absorb(&mut self, other: &Row)
+        requires { (k : ℕ) → is_member other.now k ≡ true → k / 64 < length self.old }
+        ensures joined { (k : ℕ) → is_member self.new k ≡ (is_member self.old k || is_member other.now k) }
+        ensures words { length self.new ≡ length self.old }
+    {
+        let count = self.words.len().min(other.words.len());
+        for k in 0..count {
+            self.words[k] |= other.words[k];
+        }
+    }
+
     /// Puts the number in.
     pub fn insert(&mut self, i: u16) -> Result<(), AllocError>
         ensures done { OnOk result ((k : ℕ) → is_member self.new k ≡ (is_member self.old k || (k == i))) }
         ensures kept { OnErr result ((k : ℕ) → is_member self.new k ≡ is_member self.old k) }
     {
-        let at = (i / 64) as usize;
-        extend(&mut self.words, at + 1)?;
-        self.words[at] |= 1u64 << (i % 64);
+        self.widen((i / 64) as usize + 1)?;
+        self.put(i);
         Ok(())
     }
 
@@ -71,11 +99,8 @@ impl Row {
         ensures done { OnOk result ((k : ℕ) → is_member self.new k ≡ (is_member self.old k || is_member other.now k)) }
         ensures kept { OnErr result ((k : ℕ) → is_member self.new k ≡ is_member self.old k) }
     {
-        let count = other.words.len();
-        extend(&mut self.words, count)?;
-        for k in 0..count {
-            self.words[k] |= other.words[k];
-        }
+        self.widen(other.word_count())?;
+        self.absorb(other);
         Ok(())
     }
 

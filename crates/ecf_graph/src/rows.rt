@@ -1,6 +1,6 @@
 //! Lists of rows: who stands in which row, more rows, and rows as rising lists.
 
-ghost use Rattle.std.specs.Prelude.{◌≡◌, ◌≤◌, ◌==◌, ℕ, List, length, max, IfOk, OnOk, vec_len};
+ghost use Rattle.std.specs.Prelude.{◌≡◌, ◌≤◌, ◌==◌, ℕ, List, [], length, slice_index_or, max, IfOk, OnOk, vec_len};
 ghost use Rattle.std.specs.List.{list_any};
 ghost use Rattle.ecf_graph.specs.Rows.{is_in_row, is_member, numbers_below};
 
@@ -10,6 +10,7 @@ use std::alloc::{AllocError, Global};
 /// Makes it at least so many rows, the new ones empty.
 pub fn extend_rows(alloc: Global, rows: &mut Vec<Row>, most: usize) -> Result<(), AllocError>
     ensures same { (k i : ℕ) → is_in_row rows.new.items k i ≡ is_in_row rows.old.items k i }
+    ensures words { (k : ℕ) → length (slice_index_or rows.new.items k []) ≡ length (slice_index_or rows.old.items k []) }
     ensures long { OnOk result (vec_len rows.new ≡ max most (vec_len rows.old)) }
 {
     'rows: while rows.len() < most {

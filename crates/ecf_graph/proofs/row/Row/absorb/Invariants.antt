@@ -1,6 +1,6 @@
 use Rattle.std.proofs.Common.{◌≡◌, vec_len}
 use Rattle.ecf_graph.proofs.BitLaws.{Union}
-use Rattle.ecf_graph.proofs.row.Row.union_with.Given as goal
+use Rattle.ecf_graph.proofs.row.Row.absorb.Given as goal
 
 abbrev pub invariant-loop-k : goal.invariant-loop-k
 invariant-loop-k l = record {

@@ -1,8 +1,0 @@
-use Rattle.std.proofs.Common.{◌≡◌, ℕ, ◌-◌, get_or, vec_len}
-use Rattle.ecf_graph.proofs.row.extend.Given as goal
-
-abbrev pub invariant-loop-words : goal.invariant-loop-words
-invariant-loop-words l = (k : ℕ) → get_or l.words.items k 0 ≡ get_or l.initial.words.items k 0
-
-abbrev pub decreases-loop-words : goal.decreases-loop-words
-decreases-loop-words l = l.most - vec_len l.words
