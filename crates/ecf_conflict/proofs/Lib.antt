@@ -1,3 +1,4 @@
+pub mod LeastLaws
 pub mod NumberLaws
 pub mod PairLaws
 pub mod SeenLaws

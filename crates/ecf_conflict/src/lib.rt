@@ -4,14 +4,16 @@
 ghost use Rattle.ecf_conflict.specs.Laws.{NumbersAreMembers};
 
 mod edges;
+mod least;
 mod members;
 mod numbering;
 mod seen;
 
 use ecf_verdicts::members_are;
 pub use edges::edges_of;
+pub use least::least_before;
 pub use members::members_of;
-pub use numbering::number_cell;
+pub use numbering::{number_cell, number_in_room};
 pub use seen::rows_before;
 
 /// The numbers below a bound that have steps are the members.
