@@ -1,5 +1,5 @@
 -- The placing over the rows of what reaches what is that of the trace.
-use Rattle.std.proofs.Common.{◌≡◌, ◌==◌, ℕ, Bool, true, List, reverse, sym, ap, ◌∙◌}
+use Rattle.std.proofs.Common.{◌≡◌, ◌==◌, ℕ, Bool, true, List, reverse, sym, ap, subst, ◌∙◌}
 use Rattle.std.specs.List.{list_any}
 use Rattle.std.specs.Prelude.{Contains}
 use Rattle.std.proofs.lemmas.List.{reverse-reverse}
@@ -13,7 +13,8 @@ use Rattle.ecf_graph.specs.Placement.{placement_of, IsWithin}
 use Rattle.ecf_graph.specs.Paths.{Reaches, one, more, SameReach}
 use Rattle.ecf_precedence.specs.Laws.{PlacementByReach, ReducedReachesBefore}
 use Rattle.ecf_precedence.specs.EndLemmas.{same_test, Has_reverse, Has_from_reverse}
-use Rattle.ecf_graph.specs.PathLemmas.{along}
+use Rattle.ecf_graph.specs.Pairs.{joins}
+use Rattle.ecf_graph.specs.PathLemmas.{along, wider}
 use Rattle.ecf_graph.specs.Rows.{numbers_below}
 use Rattle.ecf_graph.specs.Rows.{is_in_row}
 use Rattle.ecf_conflict.specs.Laws.{NumbersAreMembers}
@@ -48,6 +49,13 @@ module _ (before_is_of_members : BeforeIsOfMembers) (reduced_reaches_before : Re
   order_of t rows ms c e =
       let back : members (reverse (reverse t)) ≡ members t = ap members (reverse-reverse t) in
       ap (λ l. placement_of (λ a b. is_in_row rows b a) l) (e ∙ sym back) ∙ (order_is (reverse t) rows c ∙ ap (λ u. placement_of (before u) (members u)) (reverse-reverse t))
+
+-- the pairs that were added reach what "before" reaches
+pub pairs_reach : ReducedReachesBefore → (t : List Step) (pairs : List (ℕ × ℕ)) → ((i j : ℕ) → joins pairs i j ≡ reduced (reverse t) i j) → SameReach (joins pairs) (before t)
+pairs_reach reduced_reaches_before t pairs e = subst (λ u. SameReach (joins pairs) (before u)) (reverse-reverse t) record {
+  there = λ i j p. (reduced_reaches_before (reverse t)).there i j (wider (λ a b f. sym (e a b) ∙ f) p);
+  back = λ i j p. wider (λ a b f. e a b ∙ f) ((reduced_reaches_before (reverse t)).back i j p);
+}
 
 any_reverse : (p : Step → Bool) (t : List Step) → list_any p (reverse t) ≡ list_any p t
 any_reverse p t = same_test _ _

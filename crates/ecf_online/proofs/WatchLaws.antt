@@ -1,38 +1,28 @@
 -- One step more keeps what is watched, and what it says of the trace.
-use Rattle.std.proofs.Common.{◌≡◌, ◌≢◌, ℕ, ◌+◌, ◌<◌, ◌≤◌, Bool, true, false, not, cond, ◌&&◌, ◌||◌, ◌==◌, if◌then◌else◌, List, [], ◌∷◌, ◌++◌, length, get_or, slice_set, Option, Some, None, ◌⊎◌, refl, sym, ap, ◌∙◌, subst, arith, inl, inr, get_or-set_other, get_or-set_same, length-set}
+use Rattle.std.proofs.Common.{◌≡◌, ◌≢◌, ℕ, ◌+◌, ◌<◌, ◌≤◌, Bool, true, false, not, cond, ◌&&◌, ◌||◌, ◌==◌, List, [], ◌∷◌, ◌++◌, length, get_or, slice_set, Option, Some, None, ◌⊎◌, refl, sym, ap, ◌∙◌, subst, arith, inl, inr, get_or-set_other, get_or-set_same}
 use Rattle.std.specs.List.{list_any}
 use Rattle.std.proofs.lemmas.Bool.{cases_Bool, both_ways, and_left, and_right}
 use Rattle.std.proofs.lemmas.List.{get_or_past}
-use Rattle.std.proofs.lemmas.List.Folds.{list_any-append}
 use Rattle.ecf_lang.specs.declared.cell.Cell.{Cell}
 use Rattle.ecf_lang.specs.declared.run.Step.{Step}
 use Rattle.ecf_verdicts.specs.Conflicts.{same_cell}
-use Rattle.ecf_verdicts.specs.SwapLemmas.{eqb_sym}
 use Rattle.ecf_precedence.specs.Newest.{last_writer, readers_since, is_writer, adds_reduced, reduced}
+use Rattle.ecf_graph.specs.Pairs.{joins}
 use Rattle.ecf_graph.specs.Paths.{Reaches, one, more, IsAcyclic}
 use Rattle.ecf_precedence.specs.NewestLemmas.{cell_from, cell_same, writer_other, writer_new, readers_other, readers_new, readers_gone, reduced_cases, lift}
 use Rattle.ecf_graph.specs.PathLemmas.{chain}
 use Rattle.ecf_graph.specs.Rows.{is_in_row}
 use Rattle.ecf_conflict.specs.Numbering.{cell_number, IsPutIn}
 use Rattle.ecf_graph.specs.RowLemmas.{in_row_past}
-use Rattle.ecf_online.specs.Closure.{IsClosure, with_step}
-use Rattle.ecf_online.specs.Watched.{IsFirstCycle, IsWatched, MarksStep, first_with}
+use Rattle.ecf_online.specs.Closure.{IsClosure}
+use Rattle.ecf_online.specs.Pairs.{step_pairs}
+use Rattle.ecf_online.specs.Reads.{blank, readers_of, reads_after, stand_in, watch_after}
+use Rattle.ecf_online.specs.Watched.{IsFirstCycle, IsWatched, first_with, watch_of}
+use Rattle.ecf_online.specs.declared.watch.Read.{Read}
+use Rattle.ecf_online.specs.declared.watch.Watch.{Watch}
 use Rattle.ecf_online.proofs.ClosureLaws.{closure_alike}
-
--- the pairs that a step adds are those of its cell's last writer and readers since
-swap_or : (q e n s : Bool) → (q || (e && (n && s))) ≡ ((e && (n && s)) || q)
-swap_or true true true true = refl
-swap_or true true true false = refl
-swap_or true true false s = refl
-swap_or true false n s = refl
-swap_or false true true true = refl
-swap_or false true true false = refl
-swap_or false true false s = refl
-swap_or false false n s = refl
-
-reduced_step : (e : List Step) (s : Step) (w : Option ℕ) (rs : List ℕ) → w ≡ last_writer e s.cell → ((i : ℕ) → list_any (λ x. x == i) rs ≡ list_any (λ x. x == i) (readers_since e s.cell)) → (a b : ℕ) → with_step (reduced e) w rs s.inv s.write a b ≡ reduced (s ∷ e) a b
-unfolding with_step reduced adds_reduced
-reduced_step e s w rs f g a b = rw (f, g a, eqb_sym b s.inv) (swap_or (reduced e a b) (s.inv == b) (not (a == s.inv)) (is_writer (last_writer e s.cell) a || (s.write && list_any (λ x. x == a) (readers_since e s.cell))))
+use Rattle.ecf_online.proofs.PairLaws.{joins_step}
+use Rattle.ecf_online.proofs.ReadLaws.{back_more, back_new, back_none}
 
 -- each new path goes through the step's invocation
 through : (e : List Step) (s : Step) {a b : ℕ} → Reaches (reduced (s ∷ e)) a b → Reaches (reduced e) a b ⊎ (Reaches (reduced (s ∷ e)) a s.inv × ((b ≡ s.inv) ⊎ Reaches (reduced (s ∷ e)) s.inv b))
@@ -67,84 +57,98 @@ first_next e s rows count None c n f = go (is_in_row rows s.inv s.inv) refl
     go true h = ([], s, e, record { parts = refl; size = omega (arith, n); none_before = f; closed = c.sound s.inv s.inv h })
     go false h = acyclic_step e s f (λ p. both_ways _ h (c.whole s.inv s.inv p))
 
-turn : (a b : Bool) → (a || (b || false)) ≡ (b || a)
-turn true true = refl
-turn true false = refl
-turn false true = refl
-turn false false = refl
+-- the pairs of a step with those before it
+pub pairs_next : (e : List Step) (s : Step) (pairs : List (ℕ × ℕ)) (w : Option ℕ) (rs : List ℕ) → ((a b : ℕ) → joins pairs a b ≡ reduced e a b) → w ≡ last_writer e s.cell → rs ≡ readers_since e s.cell →
+    (a b : ℕ) → joins (pairs ++ step_pairs w rs s.inv s.write) a b ≡ reduced (s ∷ e) a b
+unfolding reduced adds_reduced
+pairs_next e s pairs w rs p f g a b =
+    joins_step pairs w rs s.inv s.write a b ∙
+    (ap (λ x. ((s.inv == b) && (not (a == s.inv) && (is_writer w a || (s.write && list_any (λ x. x == a) rs)))) || x) (p a b) ∙
+    (ap (λ x. ((s.inv == b) && (not (a == s.inv) && (is_writer x a || (s.write && list_any (λ x. x == a) rs)))) || reduced e a b) f ∙
+    ap (λ l. ((s.inv == b) && (not (a == s.inv) && (is_writer (last_writer e s.cell) a || (s.write && list_any (λ x. x == a) l)))) || reduced e a b) g))
 
-pub watches_next : (e : List Step) (s : Step) (cells cells' : List Cell) (writers writers1 : List (Option ℕ)) (readers readers1 rows rows' : List (List ℕ)) (count k : ℕ) (first first' : Option ℕ) (w w' : Option ℕ) (rs rs' : List ℕ) →
-    IsWatched e cells writers readers rows count first → IsPutIn cells cells' s.cell → k ≡ cell_number cells s.cell →
-    ((m : ℕ) → get_or writers1 m None ≡ get_or writers m None) → ((m : ℕ) → get_or readers1 m [] ≡ get_or readers m []) →
-    k < length writers1 → k < length readers1 → length writers1 ≤ length cells' → length readers1 ≤ length cells' →
-    w ≡ get_or writers1 k None → rs ≡ get_or readers1 k [] →
-    MarksStep s.inv s.write w rs w' rs' →
-    IsClosure (with_step (reduced e) w rs s.inv s.write) rows' →
-    first' ≡ first_with first (is_in_row rows' s.inv s.inv) (count + 1) →
-    IsWatched (s ∷ e) cells' (slice_set writers1 k w') (slice_set readers1 k rs') rows' (count + 1) first'
-watches_next e s cells cells' writers writers1 readers readers1 rows rows' count k first first' w w' rs rs' h p n same_w same_r in_w in_r few_w few_r is_w is_r m c f =
-    let old_w : w ≡ last_writer e s.cell = is_w ∙ (same_w k ∙ (ap (λ x. get_or writers x None) n ∙ h.writers_are s.cell)) in
-    let old_r : (i : ℕ) → list_any (λ x. x == i) rs ≡ list_any (λ x. x == i) (readers_since e s.cell) = λ i. ap (λ l. list_any (λ x. x == i) l) (is_r ∙ (same_r k ∙ ap (λ x. get_or readers x []) n)) ∙ h.readers_are s.cell i in
-    let closure : IsClosure (reduced (s ∷ e)) rows' = closure_alike _ _ rows' (reduced_step e s w rs old_w old_r) c in
-    record {
-      writers_are = λ d. elim (cases_Bool (same_cell d s.cell)) [
-        | inl y ↦
-            let is : d ≡ s.cell = cell_from d s.cell y in
-            let at_k : cell_number cells' d ≡ k = ap (cell_number cells') is ∙ (p.own ∙ sym n) in
-            ap (λ x. get_or (slice_set writers1 k w') x None) at_k ∙ (get_or-set_same writers1 k w' None in_w ∙ (m.writer_is ∙ own_writer d is old_w))
-        | inr o ↦
-            let away : cell_number cells' d ≢ k = λ g. p.apart d o (g ∙ n) in
-            get_or-set_other writers1 k (cell_number cells' d) w' None away ∙ (same_w (cell_number cells' d) ∙ (kept writers None h.writers_few d o ∙ (h.writers_are d ∙ sym (writer_other s e d (and_right s.write _ (not_same d o))))))
-      ];
-      readers_are = λ d i. elim (cases_Bool (same_cell d s.cell)) [
-        | inl y ↦
-            let is : d ≡ s.cell = cell_from d s.cell y in
-            let at_k : cell_number cells' d ≡ k = ap (cell_number cells') is ∙ (p.own ∙ sym n) in
-            ap (λ l. list_any (λ x. x == i) l) (ap (λ x. get_or (slice_set readers1 k rs') x []) at_k ∙ (get_or-set_same readers1 k rs' [] in_r ∙ m.readers_is)) ∙ own_readers d i is old_r
-        | inr o ↦
-            let away : cell_number cells' d ≢ k = λ g. p.apart d o (g ∙ n) in
-            ap (λ l. list_any (λ x. x == i) l) (get_or-set_other readers1 k (cell_number cells' d) rs' [] away ∙ (same_r (cell_number cells' d) ∙ kept readers [] h.readers_few d o)) ∙ (h.readers_are d i ∙ ap (λ l. list_any (λ x. x == i) l) (sym (readers_other s e d (not_same d o))))
-      ];
-      writers_few = omega (arith, length-set writers1 k w', few_w);
-      readers_few = omega (arith, length-set readers1 k rs', few_r);
-      closure = closure;
-      counted = (let q = h.counted in omega (arith, q));
-      first_is = subst (λ o. IsFirstCycle (s ∷ e) o) (sym f) (first_next e s rows' count first closure h.counted h.first_is);
-    }
-  where
-    not_same : (d : Cell) → same_cell d s.cell ≡ false → same_cell s.cell d ≡ false
-    not_same d o = elim (cases_Bool (same_cell s.cell d)) [ inl y ↦ absurd (both_ways _ o (cell_same d s.cell (sym (cell_from s.cell d y)))) | inr x ↦ x ]
+-- what is kept after a step
+module _ (e : List Step) (s : Step) (cells cells' : List Cell) (watches watches1 : List Watch) (reads : List Read) (rows rows' : List (List ℕ)) (pairs : List (ℕ × ℕ)) (count k : ℕ) (first first' : Option ℕ)
+    (h : IsWatched e cells watches reads rows pairs count first) (p : IsPutIn cells cells' s.cell) (n : k ≡ cell_number cells s.cell) (few : length watches ≤ length cells)
+    (same : (m : ℕ) → get_or watches1 m blank ≡ get_or watches m blank) (at_k : k < length watches1)
+    (in_log : (m : ℕ) → stand_in reads (get_or watches m blank).readers (get_or watches m blank).last ≡ true) where
+  abbrev w : Watch
+  w = get_or watches1 k blank
 
-    kept : {X : Type 0} (xs : List X) (z : X) → length xs ≤ length cells → (d : Cell) → same_cell d s.cell ≡ false → get_or xs (cell_number cells' d) z ≡ get_or xs (cell_number cells d) z
-    kept xs z few d o = elim (p.others d o) [
-      | inl g ↦ ap (λ x. get_or xs x z) g
-      | inr (a, b) ↦ (let l = p.longer in get_or_past xs (cell_number cells' d) z (omega (arith, few, b, l)) ∙ sym (get_or_past xs (cell_number cells d) z (omega (arith, few, a))))
-    ]
+  old_watch : w ≡ watch_of cells watches s.cell
+  old_watch = same k ∙ ap (λ x. get_or watches x blank) n
 
-    own_writer : (d : Cell) → d ≡ s.cell → w ≡ last_writer e s.cell → (if s.write then Some s.inv else w) ≡ last_writer (s ∷ e) d
-    own_writer d is old = elim (cases_Bool s.write) [
-      | inl y ↦ ap (λ b. if b then Some s.inv else w) y ∙ sym (writer_new s e d y (sym is))
-      | inr o ↦ ap (λ b. if b then Some s.inv else w) o ∙ (old ∙ (ap (last_writer e) (sym is) ∙ sym (writer_other s e d (and_left s.write (same_cell s.cell d) o))))
-    ]
+  pub old_writer : w.writer ≡ last_writer e s.cell
+  old_writer = ap (λ (x : Watch). x.writer) old_watch ∙ h.writers_are s.cell
 
-    own_readers : (d : Cell) (i : ℕ) → d ≡ s.cell → ((i : ℕ) → list_any (λ x. x == i) rs ≡ list_any (λ x. x == i) (readers_since e s.cell)) → list_any (λ x. x == i) (if s.write then [] else rs ++ s.inv ∷ []) ≡ list_any (λ x. x == i) (readers_since (s ∷ e) d)
-    own_readers d i is old = elim (cases_Bool s.write) [
-      | inl y ↦ ap (λ b. list_any (λ x. x == i) (if b then [] else rs ++ s.inv ∷ [])) y ∙ sym (ap (λ l. list_any (λ x. x == i) l) (readers_gone s e d y (sym is)))
-      | inr o ↦ ap (λ b. list_any (λ x. x == i) (if b then [] else rs ++ s.inv ∷ [])) o ∙ (list_any-append (λ x. x == i) rs (s.inv ∷ []) ∙ (ap (λ b. b || list_any (λ x. x == i) (s.inv ∷ [])) (old i ∙ ap (λ f. list_any (λ x. x == i) (readers_since e f)) (sym is)) ∙ (turn (list_any (λ x. x == i) (readers_since e d)) (s.inv == i) ∙ sym (ap (λ l. list_any (λ x. x == i) l) (readers_new s e d o (sym is))))))
-    ]
+  pub old_readers : readers_of reads w ≡ readers_since e s.cell
+  old_readers = ap (λ (x : Watch). readers_of reads x) old_watch ∙ h.readers_are s.cell
+
+  old_log : stand_in reads w.readers w.last ≡ true
+  old_log = ap (λ (x : Watch). stand_in reads x.readers x.last) (same k) ∙ in_log k
+
+  not_same : (d : Cell) → same_cell d s.cell ≡ false → same_cell s.cell d ≡ false
+  not_same d o = elim (cases_Bool (same_cell s.cell d)) [ inl y ↦ absurd (both_ways _ o (cell_same d s.cell (sym (cell_from s.cell d y)))) | inr x ↦ x ]
+
+  -- another cell keeps what is kept of it
+  kept : (d : Cell) (w' : Watch) → same_cell d s.cell ≡ false → watch_of cells' (slice_set watches1 k w') d ≡ watch_of cells watches d
+  kept d w' o =
+      let away : cell_number cells' d ≢ k = λ g. p.apart d o (g ∙ n) in
+      get_or-set_other watches1 k (cell_number cells' d) w' blank away ∙ (same (cell_number cells' d) ∙ elim (p.others d o) [
+        | inl g ↦ ap (λ x. get_or watches x blank) g
+        | inr (a, b) ↦ (let l = p.longer in get_or_past watches (cell_number cells' d) blank (omega (arith, few, b, l)) ∙ sym (get_or_past watches (cell_number cells d) blank (omega (arith, few, a))))
+      ])
+
+  own : (d : Cell) (w' : Watch) → same_cell d s.cell ≡ true → watch_of cells' (slice_set watches1 k w') d ≡ w'
+  own d w' y =
+      let at : cell_number cells' d ≡ k = ap (cell_number cells') (cell_from d s.cell y) ∙ (p.own ∙ sym n) in
+      ap (λ x. get_or (slice_set watches1 k w') x blank) at ∙ get_or-set_same watches1 k w' blank at_k
+
+  writer_own : (d : Cell) (b : Bool) → s.cell ≡ d → s.write ≡ b → (watch_after w (length reads) s.inv b).writer ≡ last_writer (s ∷ e) d
+  writer_own d true is wr = sym (writer_new s e d wr is)
+  writer_own d false is wr = old_writer ∙ (ap (last_writer e) is ∙ sym (writer_other s e d (and_left s.write (same_cell s.cell d) wr)))
+
+  readers_own : (d : Cell) (b : Bool) → s.cell ≡ d → s.write ≡ b → readers_of (reads_after reads w s.inv b) (watch_after w (length reads) s.inv b) ≡ readers_since (s ∷ e) d
+  readers_own d true is wr = back_none reads 0 ∙ sym (readers_gone s e d wr is)
+  readers_own d false is wr = back_new reads record { inv = s.inv; earlier = w.last } w.readers old_log ∙ (ap (λ l. s.inv ∷ l) (old_readers ∙ ap (readers_since e) is) ∙ sym (readers_new s e d wr is))
+
+  readers_kept : (d : Cell) (b : Bool) → readers_of (reads_after reads w s.inv b) (watch_of cells watches d) ≡ readers_of reads (watch_of cells watches d)
+  readers_kept d true = refl
+  readers_kept d false = back_more reads record { inv = s.inv; earlier = w.last } _ _ (in_log (cell_number cells d))
+
+  pub watched_next : IsClosure (joins (pairs ++ step_pairs w.writer (readers_of reads w) s.inv s.write)) rows' → first' ≡ first_with first (is_in_row rows' s.inv s.inv) (count + 1) →
+      IsWatched (s ∷ e) cells' (slice_set watches1 k (watch_after w (length reads) s.inv s.write)) (reads_after reads w s.inv s.write) rows' (pairs ++ step_pairs w.writer (readers_of reads w) s.inv s.write) (count + 1) first'
+  watched_next c f =
+      let pairs_are = pairs_next e s pairs w.writer (readers_of reads w) h.pairs_are old_writer old_readers in
+      let closure : IsClosure (reduced (s ∷ e)) rows' = closure_alike _ _ rows' pairs_are c in
+      record {
+        writers_are = λ d. elim (cases_Bool (same_cell d s.cell)) [
+          | inl y ↦ ap (λ (x : Watch). x.writer) (own d _ y) ∙ writer_own d s.write (sym (cell_from d s.cell y)) refl
+          | inr o ↦ ap (λ (x : Watch). x.writer) (kept d _ o) ∙ (h.writers_are d ∙ sym (writer_other s e d (and_right s.write _ (not_same d o))))
+        ];
+        readers_are = λ d. elim (cases_Bool (same_cell d s.cell)) [
+          | inl y ↦ ap (λ (x : Watch). readers_of (reads_after reads w s.inv s.write) x) (own d _ y) ∙ readers_own d s.write (sym (cell_from d s.cell y)) refl
+          | inr o ↦ ap (λ (x : Watch). readers_of (reads_after reads w s.inv s.write) x) (kept d _ o) ∙ (readers_kept d s.write ∙ (h.readers_are d ∙ sym (readers_other s e d (not_same d o))))
+        ];
+        pairs_are = pairs_are;
+        closure = closure;
+        counted = (let q = h.counted in omega (arith, q));
+        first_is = subst (λ o. IsFirstCycle (s ∷ e) o) (sym f) (first_next e s rows' count first closure h.counted h.first_is);
+      }
 
 -- of nothing
-pub watches_none : (cells : List Cell) (writers : List (Option ℕ)) (readers rows : List (List ℕ)) → writers ≡ [] → readers ≡ [] → rows ≡ [] → IsWatched [] cells writers readers rows 0 None
-unfolding last_writer readers_since reduced
-watches_none cells writers readers rows a b c = record {
-  writers_are = λ d. get_or_past writers (cell_number cells d) None (rw a (omega arith));
-  readers_are = λ d i. ap (λ l. list_any (λ x. x == i) l) (get_or_past readers (cell_number cells d) [] (rw b (omega arith)));
-  writers_few = rw a (omega arith);
-  readers_few = rw b (omega arith);
-  closure = record { sound = λ x y h. absurd (both_ways _ (in_row_past rows y x (rw c (omega arith))) h); whole = λ x y p. absurd (no_path p) };
-  counted = refl;
-  first_is = λ i p. no_path p;
-}
+pub watched_none : (cells : List Cell) (watches : List Watch) (reads : List Read) (rows : List (List ℕ)) (pairs : List (ℕ × ℕ)) → watches ≡ [] → rows ≡ [] → pairs ≡ [] → IsWatched [] cells watches reads rows pairs 0 None
+unfolding last_writer readers_since reduced joins
+watched_none cells watches reads rows pairs a b c =
+    let none : ((d : Cell) → watch_of cells watches d ≡ blank) = λ d. get_or_past watches (cell_number cells d) blank (rw a (omega arith)) in
+    record {
+      writers_are = λ d. ap (λ (x : Watch). x.writer) (none d);
+      readers_are = λ d. ap (λ (x : Watch). readers_of reads x) (none d) ∙ back_none reads 0;
+      pairs_are = λ i j. rw c refl;
+      closure = record { sound = λ x y h. absurd (both_ways _ (in_row_past rows y x (rw b (omega arith))) h); whole = λ x y p. absurd (no_path p) };
+      counted = refl;
+      first_is = λ i p. no_path p;
+    }
   where
     no_path : {i j : ℕ} → Reaches (reduced []) i j → ⊥
     no_path (one e) = both_ways false refl e

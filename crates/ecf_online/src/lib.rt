@@ -2,10 +2,13 @@
 //! swaps can no longer bring the steps of each invocation together.
 #![tactic(auto)]
 
-mod cells;
-mod copies;
+mod limits;
 mod monitor;
+mod pairs;
 mod reach;
+mod room;
 mod seen;
+mod watch;
 
+pub use limits::MAX_STEPS;
 pub use monitor::Monitor;

@@ -1,13 +1,16 @@
-//! Rows of what reaches what: i is in the row of j where i reaches j. They stay right past a cycle.
+//! Rows of what reaches what: i is in the row of j where i reaches j. They stay right past a cycle. Pairs are taken in
+//! without memory: the row of each number that has had a step has room for all such numbers.
 
-ghost use Rattle.std.specs.Prelude.{◌≡◌, ◌<◌, ◌||◌, ◌==◌, ℕ, Bool, List, length, Option, IfOk, OnOk};
+ghost use Rattle.std.specs.Prelude.{◌≡◌, ◌≤◌, ◌<◌, ◌||◌, ◌&&◌, ◌==◌, ◌/◌, ℕ, Bool, true, List, [], length, slice_index_or, take, vec_len};
+ghost use Rattle.ecf_graph.specs.Pairs.{joins};
 ghost use Rattle.ecf_graph.specs.Paths.{with_pair};
-ghost use Rattle.ecf_graph.specs.Rows.{is_in_row, is_member};
-ghost use Rattle.ecf_online.specs.Closure.{IsClosure, IsSpread, with_apart, with_readers, with_step, with_writer};
+ghost use Rattle.ecf_graph.specs.Rows.{is_in_row};
+ghost use Rattle.ecf_online.specs.Closure.{IsClosure, IsReady, IsReadyPair, IsShaped, IsSpread};
 
-use ecf_graph::{Row, extend_rows, row_contains};
+use ecf_graph::{Row, row_contains};
 use ecf_precedence::one_pair_more;
-use std::alloc::{AllocError, Global};
+use std::alloc::Global;
+use std::mem;
 
 /// Whether k is j or has j in its row.
 fn is_reached(rows: &[Row], k: usize, j: u16) -> bool
@@ -21,100 +24,64 @@ fn is_reached(rows: &[Row], k: usize, j: u16) -> bool
     }
 }
 
-/// Puts a set into the row of j and into each row that has j.
-fn spread(rows: &mut Vec<Row>, from: &Row, j: u16) -> Result<(), AllocError>
-    ensures { OnOk result (IsSpread rows.old.items from.now j rows.new.items) }
+/// Puts i and what reaches it into the row of k.
+fn join_row(alloc: Global, rows: &mut Vec<Row>, k: usize, i: u16)
+    requires k { k < vec_len rows.old }
+    requires i { i < vec_len rows.old }
+    requires members { (a : ℕ) → is_in_row rows.old.items i a ≡ true → a / 64 < length (slice_index_or rows.old.items k []) }
+    requires own { i / 64 < length (slice_index_or rows.old.items k []) }
+    ensures joined { (a b : ℕ) → is_in_row rows.new.items b a ≡
+        (is_in_row rows.old.items b a || ((b == k) && (is_in_row rows.old.items i a || (a == i)))) }
+    ensures words { (b : ℕ) → length (slice_index_or rows.new.items b []) ≡ length (slice_index_or rows.old.items b []) }
+    ensures long { vec_len rows.new ≡ vec_len rows.old }
+{
+    let mut row = mem::replace(&mut rows[k], Row::new(alloc));
+    row.absorb(&rows[i as usize]);
+    row.put(i);
+    rows[k] = row;
+}
+
+/// Puts i and what reaches it into the row of j and into each row that has j.
+fn spread(alloc: Global, rows: &mut Vec<Row>, i: u16, j: u16)
+    requires shaped { IsShaped rows.old.items }
+    requires ready { IsReadyPair rows.old.items (i, j) }
+    ensures spread { IsSpread rows.old.items i j rows.new.items }
+    ensures words { (b : ℕ) → length (slice_index_or rows.new.items b []) ≡ length (slice_index_or rows.old.items b []) }
 {
     let count = rows.len();
     for k in 0..count {
         if is_reached(rows.as_slice(), k, j) {
-            rows[k].union_with(from)?;
+            join_row(alloc, rows, k, i);
         }
     }
-    Ok(())
-}
-
-/// The set of i and what reaches it.
-fn sources_of(alloc: Global, rows: &[Row], i: u16) -> Result<Row, AllocError>
-    requires { i < length rows.now }
-    ensures { IfOk result (λ r. (a : ℕ) → is_member r a ≡ (is_in_row rows.now i a || (a == i))) }
-{
-    let mut from = Row::new(alloc);
-    from.union_with(&rows[i as usize])?;
-    from.insert(i)?;
-    Ok(from)
 }
 
 /// Takes in one pair more. A pair that is reached already costs one look.
-fn add_pair(alloc: Global, rows: &mut Vec<Row>, i: u16, j: u16) -> Result<(), AllocError>
-    ensures { (r : ℕ → ℕ → Bool) → IsClosure r rows.old.items → OnOk result (IsClosure (with_pair r i j) rows.new.items) }
+fn add_pair(alloc: Global, rows: &mut Vec<Row>, i: u16, j: u16)
+    requires shaped { IsShaped rows.old.items }
+    requires ready { IsReadyPair rows.old.items (i, j) }
+    ensures closure { (r : ℕ → ℕ → Bool) → IsClosure r rows.old.items → IsClosure (with_pair r i j) rows.new.items }
+    ensures shaped { IsShaped rows.new.items }
+    ensures words { (b : ℕ) → length (slice_index_or rows.new.items b []) ≡ length (slice_index_or rows.old.items b []) }
 {
     one_pair_more();
     if row_contains(rows.as_slice(), j, i) {
-        return Ok(());
+        return;
     }
-    let top = if i < j { j } else { i };
-    extend_rows(alloc, rows, top as usize + 1)?;
-    let from = sources_of(alloc, rows.as_slice(), i)?;
-    spread(rows, &from, j)
+    spread(alloc, rows, i, j);
 }
 
-/// Takes in the pair of i and j, where they differ.
-fn add_apart(alloc: Global, rows: &mut Vec<Row>, i: u16, j: u16) -> Result<(), AllocError>
-    ensures { (r : ℕ → ℕ → Bool) → IsClosure r rows.old.items → OnOk result (IsClosure (with_apart r i j) rows.new.items) }
+/// Takes in the pairs of a list from a place on.
+pub fn add_pairs(alloc: Global, rows: &mut Vec<Row>, pairs: &[(u16, u16)], from: usize)
+    requires from { from ≤ length pairs.now }
+    requires shaped { IsShaped rows.old.items }
+    requires ready { (k : ℕ) (d : ℕ × ℕ) → from ≤ k → k < length pairs.now → IsReadyPair rows.old.items (slice_index_or pairs.now k d) }
+    ensures closure { IsClosure (joins (take from pairs.now)) rows.old.items → IsClosure (joins pairs.now) rows.new.items }
+    ensures shaped { IsShaped rows.new.items }
+    ensures words { (b : ℕ) → length (slice_index_or rows.new.items b []) ≡ length (slice_index_or rows.old.items b []) }
 {
-    if i == j {
-        Ok(())
-    } else {
-        add_pair(alloc, rows, i, j)
-    }
-}
-
-/// Takes in the pair from a cell's last writer to j.
-fn add_from_writer(
-    alloc: Global,
-    rows: &mut Vec<Row>,
-    writer: Option<u16>,
-    j: u16,
-) -> Result<(), AllocError>
-    ensures { (r : ℕ → ℕ → Bool) → IsClosure r rows.old.items → OnOk result (IsClosure (with_writer r writer j) rows.new.items) }
-{
-    match writer {
-        Some(i) => add_apart(alloc, rows, i, j),
-        None => Ok(()),
-    }
-}
-
-/// Takes in the pairs from a cell's readers to j.
-fn add_from_readers(
-    alloc: Global,
-    rows: &mut Vec<Row>,
-    readers: &[u16],
-    j: u16,
-) -> Result<(), AllocError>
-    ensures { (r : ℕ → ℕ → Bool) → IsClosure r rows.old.items → OnOk result (IsClosure (with_readers r readers.now j) rows.new.items) }
-{
-    for i in readers {
-        add_apart(alloc, rows, *i, j)?;
-    }
-    Ok(())
-}
-
-/// Takes in the pairs that a step of j adds at a cell with this last writer and these readers since.
-pub fn add_step(
-    alloc: Global,
-    rows: &mut Vec<Row>,
-    writer: Option<u16>,
-    readers: &[u16],
-    j: u16,
-    write: bool,
-) -> Result<(), AllocError>
-    ensures { (r : ℕ → ℕ → Bool) → IsClosure r rows.old.items → OnOk result (IsClosure (with_step r writer readers.now j write) rows.new.items) }
-{
-    add_from_writer(alloc, rows, writer, j)?;
-    if write {
-        add_from_readers(alloc, rows, readers, j)
-    } else {
-        Ok(())
+    for at in from..pairs.len() {
+        let (i, j) = pairs[at];
+        add_pair(alloc, rows, i, j);
     }
 }

@@ -1,23 +1,23 @@
 //! Which invocations have steps.
 
-ghost use Rattle.std.specs.Prelude.{◌≡◌, ◌≤◌, List, ◌∷◌, OnOk};
+ghost use Rattle.std.specs.Prelude.{◌≡◌, ◌≤◌, ◌<◌, ◌/◌, List, ◌∷◌, length};
 ghost use Rattle.ecf_lang.specs.declared.run.Step.{Step};
 ghost use Rattle.ecf_online.specs.Watched.{HasSeen};
 
 use ecf_graph::Row;
 use ecf_lang::run::Step;
-use std::alloc::AllocError;
 
-/// Puts in the invocation of a step.
-pub fn see_step(seen: &mut Row, above: &mut u32, step: &Step) -> Result<(), AllocError>
-    ensures { (e : List Step) → HasSeen e seen.old above.old → OnOk result (HasSeen (step.now ∷ e) seen.new above.new) }
+/// Puts in the invocation of a step, for which there is room.
+pub fn see_step(seen: &mut Row, above: &mut u32, step: &Step)
+    requires { step.now.inv / 64 < length seen.old }
+    ensures seen { (e : List Step) → HasSeen e seen.old above.old → HasSeen (step.now ∷ e) seen.new above.new }
+    ensures words { length seen.new ≡ length seen.old }
 {
-    seen.insert(step.inv)?;
+    seen.put(step.inv);
     let next = u32::from(step.inv) + 1;
     if next > *above {
         *above = next;
     }
-    Ok(())
 }
 
 /// The number, or 65,536 where it is more.

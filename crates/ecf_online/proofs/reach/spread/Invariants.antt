@@ -2,4 +2,4 @@ use Rattle.ecf_online.proofs.ClosureLaws.{SpreadTo}
 use Rattle.ecf_online.proofs.reach.spread.Given as goal
 
 abbrev pub invariant-loop-k : goal.invariant-loop-k
-invariant-loop-k l = SpreadTo l.initial.rows.items l.from l.j l.rows.items l.k
+invariant-loop-k l = SpreadTo l.initial.rows.items l.i l.j l.rows.items l.k
