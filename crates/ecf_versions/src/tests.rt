@@ -1,4 +1,4 @@
-//! What no clause says: that the calls give an answer, below and above the size at which a leaf is cut, and that
+//! What no clause says: that the calls give an answer, below and above the sizes at which pages are cut, and that
 //! snapshots stay as they are. A heap that is written alike is what they are held against.
 
 use crate::{Snapshot, Versions};
@@ -117,7 +117,7 @@ fn rounds_hold(alloc: Global, order: Order, size: u64) -> Result<bool, AllocErro
 #[test]
 fn all_sizes_hold_in_all_orders(rt: HostRuntime) -> Result<(), Fail> {
     let alloc = rt.alloc();
-    for size in [0, 1, 256, 257, 700] {
+    for size in [0, 1, 256, 257, 65_536, 65_537, 200_000] {
         for order in [Order::Rising, Order::Falling, Order::Mixed] {
             assert!(rt; rounds_hold(alloc, order, size)?, "{order:?} to {size}");
         }
@@ -165,10 +165,10 @@ fn reads_alike(snapshot: &Snapshot, heap: &Heap) -> bool {
 fn snapshots_stay_as_they_were(rt: HostRuntime) -> Result<(), Fail> {
     let alloc = rt.alloc();
     let mut heap = Heap::empty(alloc);
-    for number in 0..1_200 {
+    for number in 0..2_000 {
         heap.put(cell_of(number), u128::from(number) + 5_000)?;
     }
-    let taken = snapshots(alloc, &heap, 20)?;
+    let taken = snapshots(alloc, &heap, 1_000)?;
     for (turn, snapshot) in taken.iter().enumerate() {
         assert!(rt; reads_alike(snapshot, &heap), "snapshot {turn}");
         heap.write(writes_of(alloc, turn as u64)?.as_slice())?;
