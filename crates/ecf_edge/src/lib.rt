@@ -13,6 +13,3 @@ pub use plan::count_up;
 pub use shelf::{Fetch, MemShelf, Shelf, SureShelf};
 pub use sink::{MemSink, Sink, SureSink, WriteFault, put_all};
 pub use source::{Ending, Failed, Incomplete, MemSource, Reading, Source, SureSource, read_all};
-
-#[cfg(test)]
-mod tests;

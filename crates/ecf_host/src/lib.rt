@@ -13,6 +13,3 @@ mod top;
 mod words;
 
 pub use top::{host, tool};
-
-#[cfg(test)]
-mod tests;
