@@ -257,6 +257,3 @@ fn build_parts(
     }
     Ok(Some(built))
 }
-
-#[cfg(test)]
-mod tests;
