@@ -1,0 +1,4 @@
+pub mod MembershipLaws
+pub mod ObjectLaws
+pub mod TraceLaws
+pub mod WalkLaws

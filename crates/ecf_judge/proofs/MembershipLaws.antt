@@ -1,0 +1,103 @@
+-- Who has steps, step by step, and what it says of the members.
+use Rattle.std.proofs.Common.{◌≡◌, ℕ, ◌<◌, ◌≤◌, List, [], ◌∷◌, ◌++◌, length, ◌⊎◌, inl, inr, true, refl, sym, ap, ◌∙◌, arith}
+use Rattle.std.proofs.lemmas.Bool.{cases_eq, eq-eqb, ne_eqb}
+use Rattle.ecf_judge.specs.Membership.{with_member, membership_from, membership}
+use Rattle.ecf_judge.specs.declared.membership.Membership.{Membership}
+use Rattle.ecf_judge.specs.declared.membership.Membership.TheVariants.{Nobody, Only, Several}
+use Rattle.ecf_lang.specs.declared.run.Step.{Step}
+use Rattle.ecf_verdicts.specs.Cycles.{is_placed}
+use Rattle.ecf_verdicts.specs.Laws.{MembersAre, SingleFree, TestTellsFree}
+use Rattle.ecf_verdicts.specs.ListLemmas.{Each, Has, In, Each_at, Has_in, All_from_Each, Any_from_Has, Has_from_Any, Contains_from_In, In_from_Contains}
+use Rattle.ecf_verdicts.specs.RisingLemmas.{Rising, rising_from}
+use Rattle.ecf_verdicts.specs.Traces.{members}
+
+-- one step more
+pub from_next : (m : Membership) (t : List Step) (s : Step) → membership_from m (t ++ s ∷ []) ≡ with_member (membership_from m t) s.inv
+unfolding membership_from
+from_next m [] s = refl
+from_next m (u ∷ t) s = from_next (with_member m u.inv) t s
+
+several_stays : (t : List Step) → membership_from Several t ≡ Several
+unfolding membership_from with_member
+several_stays [] = refl
+several_stays (s ∷ t) = several_stays t
+
+-- after a step of i either all are of i or some isn't
+only_cases : (t : List Step) (i : ℕ) → ((membership_from (Only i) t ≡ Only i) × Each (λ s. s.inv ≡ i) t) ⊎ ((membership_from (Only i) t ≡ Several) × Has (λ s. s.inv ≡ i → ⊥) t)
+unfolding membership_from with_member
+only_cases [] i = inl (refl, tt)
+only_cases (s ∷ t) i = elim (cases_eq i s.inv) [
+  | inl e ↦ elim (only_cases t i) [
+    | inl h ↦ inl (rw (eq-eqb i s.inv e) h.0, (sym e, h.1))
+    | inr h ↦ inr (rw (eq-eqb i s.inv e) h.0, inr h.1)
+  ]
+  | inr n ↦ inr (rw (ne_eqb i s.inv n) (several_stays t), inl (λ e. n (sym e)))
+]
+
+-- a trace of nobody has no steps
+pub nobody_empty : (t : List Step) → Nobody ≡ membership t → t ≡ []
+unfolding membership_from with_member
+nobody_empty [] e = refl
+nobody_empty (s ∷ t) e = elim (only_cases t s.inv) [ inl h ↦ absurd (apart_only s.inv (e ∙ h.0)) | inr h ↦ absurd (apart_several (e ∙ h.0)) ]
+  where
+    apart_only : (i : ℕ) → Nobody ≡ Only i → ⊥
+    apart_only i f = cc
+
+    apart_several : Nobody ≡ Several → ⊥
+    apart_several f = cc
+
+only_several : (i : ℕ) (m : Membership) → m ≡ Only i → m ≡ Several → ⊥
+only_several i m e f = cc
+
+-- members that are all one
+short : MembersAre → (t : List Step) (i : ℕ) → Each (λ s. s.inv ≡ i) t → length (members t) ≤ 1
+short are t i h = go (members t) (rising_from (members t) (are t).0) (λ k j. (let r = Has_in (λ (s : Step). s.inv ≡ k) t (Has_from_Any (λ (s : Step). s.inv ≡ k) t (((are t).1 k).0 (Contains_from_In (members t) k j))) in sym r.2 ∙ Each_at (λ s. s.inv ≡ i) t r.0 h r.1))
+  where
+    go : (ms : List ℕ) → Rising ms → ((k : ℕ) → In k ms → k ≡ i) → length ms ≤ 1
+    go [] r f = omega arith
+    go (x ∷ []) r f = omega arith
+    go (x ∷ y ∷ ys) r f = absurd (omega (arith, f x (inl refl), f y (inr (inl refl)), r.0.0))
+
+-- two members that differ
+two : (ms : List ℕ) (i j : ℕ) → In i ms → In j ms → (i ≡ j → ⊥) → 1 < length ms
+two [] i j a b n = absurd a
+two (x ∷ []) i j (inl e) (inl f) n = absurd (n (e ∙ sym f))
+two (x ∷ []) i j (inl e) (inr b) n = absurd b
+two (x ∷ []) i j (inr a) b n = absurd a
+two (x ∷ y ∷ ys) i j a b n = omega arith
+
+has_member : MembersAre → (t : List Step) (i : ℕ) → Has (λ s. s.inv ≡ i) t → In i (members t)
+has_member are t i h = In_from_Contains (members t) i (((are t).1 i).1 (Any_from_Has (λ (s : Step). s.inv ≡ i) t h))
+
+pub several_members : MembersAre → (t : List Step) → membership t ≡ Several → 1 < length (members t)
+unfolding membership_from with_member
+several_members are [] e = absurd (apart e)
+  where
+    apart : Nobody ≡ Several → ⊥
+    apart f = cc
+several_members are (s ∷ t) e = elim (only_cases t s.inv) [
+  | inl h ↦ absurd (only_several s.inv _ h.0 e)
+  | inr h ↦ (let r = Has_in (λ (u : Step). u.inv ≡ s.inv → ⊥) t h.1 in
+      two (members (s ∷ t)) s.inv r.0.inv (has_member are (s ∷ t) s.inv (inl refl)) (has_member are (s ∷ t) r.0.inv (inr (has t r.0 r.1))) (λ f. r.2 (sym f)))
+]
+  where
+    has : (us : List Step) (u : Step) → In u us → Has (λ (v : Step). v.inv ≡ u.inv) us
+    has [] u i = i
+    has (v ∷ us) u (inl f) = inl (ap (λ (w : Step). w.inv) (sym f))
+    has (v ∷ us) u (inr i) = inr (has us u i)
+
+pub few_members : MembersAre → (t : List Step) → (membership t ≡ Several → ⊥) → length (members t) ≤ 1
+unfolding membership_from with_member
+few_members are [] n = short are [] 0 tt
+few_members are (s ∷ t) n = elim (only_cases t s.inv) [
+  | inl h ↦ short are (s ∷ t) s.inv (refl, h.1)
+  | inr h ↦ absurd (n h.0)
+]
+
+pub few_placed : SingleFree → TestTellsFree → (t : List Step) → (membership t ≡ Several → ⊥) → is_placed t ≡ true
+unfolding membership_from with_member
+few_placed single tells [] n = (tells []).0.1 (single [] 0 (All_from_Each _ [] tt))
+few_placed single tells (s ∷ t) n = elim (only_cases t s.inv) [
+  | inl h ↦ (tells (s ∷ t)).0.1 (single (s ∷ t) s.inv (All_from_Each (λ (u : Step). u.inv ≡ s.inv) (s ∷ t) (refl, h.1)))
+  | inr h ↦ absurd (n h.0)
+]
