@@ -1,3 +1,4 @@
 pub mod BitLaws
+pub mod CheckLaws
 pub mod RoundLaws
 pub mod RowLaws

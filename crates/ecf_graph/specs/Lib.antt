@@ -1,3 +1,4 @@
+pub mod Checks
 pub mod Ordered
 pub mod PathLemmas
 pub mod Paths
