@@ -5,6 +5,8 @@
 mod cycle;
 mod membership;
 mod object;
+#[cfg(test)]
+mod tests;
 mod traces;
 mod verdict;
 
