@@ -1,0 +1,9 @@
+pub mod TableLaws
+pub mod LoopLaws
+pub mod ExpressionLaws
+pub mod StatementLaws
+pub mod DeclarationLaws
+pub mod InitialLaws
+pub mod MemberLaws
+pub mod FileLaws
+pub mod OutcomeLaws

@@ -1,0 +1,5 @@
+pub mod Views
+pub mod Sorts
+pub mod Summaries
+pub mod Passes
+pub mod Checks
