@@ -57,12 +57,12 @@ alone_legal tx = record {
 
 -- the text of a run's entry and fields is the journal of its transaction
 pub journal_is : SingleApproved → VetoedWhereNotFree → (typed : Typed) (tx : Tx) (r : Run) (text : List ℕ) → r ≡ kept_run (run typed (genesis typed) tx) → All (λ (s : Step). s.inv ≡ 0) r.steps →
-    text ≡ journal_text typed (tx ∷ []) (record { row = 0; receipt = receipt_of r.outcome r.fuel r.steps } ∷ []) None (with_writes (genesis typed) r.writes) → IsJournal typed (tx ∷ []) None text
+    text ≡ journal_text 1 typed (tx ∷ []) (record { row = 0; receipt = receipt_of r.outcome r.fuel r.steps } ∷ []) None (with_writes (genesis typed) r.writes) → IsJournal 1 typed (tx ∷ []) None text
 unfolding serial_from receipt_on
 journal_is single vetoed typed tx r text is one text_is = record {
   places = 0 ∷ [];
   legal = alone_legal tx;
-  serial = text_is ∙ (ap (λ (q : Run). journal_text typed (tx ∷ []) (record { row = 0; receipt = receipt_of q.outcome q.fuel q.steps } ∷ []) None (with_writes (genesis typed) q.writes)) is
-      ∙ ap (λ store. journal_text typed (tx ∷ []) (record { row = 0; receipt = receipt_on typed (genesis typed) tx } ∷ []) None store) (sym (next_is single typed (genesis typed) tx (subst (λ (q : Run). All (λ (s : Step). s.inv ≡ 0) q.steps) is one))));
+  serial = text_is ∙ (ap (λ (q : Run). journal_text 1 typed (tx ∷ []) (record { row = 0; receipt = receipt_of q.outcome q.fuel q.steps } ∷ []) None (with_writes (genesis typed) q.writes)) is
+      ∙ ap (λ store. journal_text 1 typed (tx ∷ []) (record { row = 0; receipt = receipt_on typed (genesis typed) tx } ∷ []) None store) (sym (next_is single typed (genesis typed) tx (subst (λ (q : Run). All (λ (s : Step). s.inv ≡ 0) q.steps) is one))));
   vetoes = (vetoed typed (genesis typed) tx, tt);
 }

@@ -217,7 +217,7 @@ one_order : (tx : Tx) (places : List ℕ) → IsLegal (tx ∷ []) places → pla
 one_order tx places legal = only_place places (length_permutation (0 ∷ []) places legal.each_once) (sum_by-IsPermutation (λ x. x) (0 ∷ []) places legal.each_once)
 
 the_answer : Typed → Tx → Answer
-the_answer typed tx = record { status = 0; out = text_along typed (tx ∷ []) (0 ∷ []) None; note = [] }
+the_answer typed tx = record { status = 0; out = text_along 1 typed (tx ∷ []) (0 ∷ []) None; note = [] }
 
 same_answer : (some other : Answer) → some.status ≡ other.status → some.out ≡ other.out → some.note ≡ other.note → some ≡ other
 same_answer some other status out note =
@@ -228,7 +228,7 @@ same_answer some other status out note =
 ran_is : (typed : Typed) (tx : Tx) (outcome : Result Answer Refusal) → ran typed tx outcome → outcome ≡ Ok (the_answer typed tx)
 unfolding the_answer
 ran_is typed tx (Ok answer) is =
-    ap Ok (same_answer answer (the_answer typed tx) is.status (is.journal.serial ∙ ap (λ places. text_along typed (tx ∷ []) places None) (one_order tx is.journal.places is.journal.legal)) is.no_note)
+    ap Ok (same_answer answer (the_answer typed tx) is.status (is.journal.serial ∙ ap (λ places. text_along 1 typed (tx ∷ []) places None) (one_order tx is.journal.places is.journal.legal)) is.no_note)
 ran_is typed tx (Err refusal) is = absurd is
 
 -- ---- what is due

@@ -20,7 +20,7 @@ use Rattle.ecf_host.specs.World.{Inputs}
 -- the journal of a stream's one transaction, with status 0
 pub record IsRun (typed : Typed) (tx : Tx) (answer : Answer) : Type 0 where
   pub status : answer.status ≡ 0
-  pub journal : IsJournal typed (tx ∷ []) None answer.out
+  pub journal : IsJournal 1 typed (tx ∷ []) None answer.out
   pub no_note : answer.note ≡ []
 
 -- run: a transaction has its journal

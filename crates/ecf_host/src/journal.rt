@@ -27,7 +27,7 @@ pub fn journal_of(alloc: Global, typed: &Typed, tx: Tx) -> Result<Vec<u8>, Alloc
     requires one_call { length tx.calls ≡ 1 }
     requires built { IsBuilt typed.now }
     requires limits { IsWithinLimits typed.now }
-    ensures { IfOk result (λ text. IsJournal typed.now (tx ∷ []) None text.items) }
+    ensures { IfOk result (λ text. IsJournal 1 typed.now (tx ∷ []) None text.items) }
 {
     steps_are_of_the_first_invocation();
     single_approved();

@@ -21,11 +21,11 @@ entries_of [] receipts = []
 entries_of (place ∷ places) [] = []
 entries_of (place ∷ places) (receipt ∷ receipts) = record { row = place; receipt = receipt } ∷ entries_of places receipts
 
--- the text of the journal that lists these places, from running their transactions one after the other
-abbrev pub text_along : Typed → List Tx → List ℕ → Option Stop → List ℕ
-text_along typed txs places stop =
+-- the text, of a version, of the journal that lists these places, from running their transactions one after the other
+abbrev pub text_along : ℕ → Typed → List Tx → List ℕ → Option Stop → List ℕ
+text_along version typed txs places stop =
     let result : Serial = serial typed (along txs places) in
-    journal_text typed txs (entries_of places result.receipts) stop result.store
+    journal_text version typed txs (entries_of places result.receipts) stop result.store
 
 -- each transaction, run after those before it, is vetoed exactly where its run answers and for some object no swaps of
 -- neighbouring steps that don't conflict, of different invocations, bring each invocation's steps together
@@ -35,9 +35,9 @@ VetoesHarm typed store (tx ∷ txs) =
     (IsVetoed (receipt_on typed store tx) ↔ IsAnswer (run typed store tx).outcome × ((o : ℕ) × (Free (trace (run typed store tx).steps o) → ⊥)))
     × VetoesHarm typed (next_store typed store tx) txs
 
--- the text is a journal of these transactions: each stands once, in its submitter's order
-pub record IsJournal (typed : Typed) (txs : List Tx) (stop : Option Stop) (text : List ℕ) : Type 0 where
+-- the text is a journal, of this version, of these transactions: each stands once, in its submitter's order
+pub record IsJournal (version : ℕ) (typed : Typed) (txs : List Tx) (stop : Option Stop) (text : List ℕ) : Type 0 where
   pub places : List ℕ
   pub legal : IsLegal txs places
-  pub serial : text ≡ text_along typed txs places stop
+  pub serial : text ≡ text_along version typed txs places stop
   pub vetoes : VetoesHarm typed (genesis typed) (along txs places)

@@ -1,6 +1,7 @@
 -- The transaction that a line says fits the contract.
-use Rattle.std.proofs.Common.{◌≡◌, ◌≤◌, ◌<◌, ℕ, zero, suc, ◌-◌, ◌^◌, Bool, true, false, ◌&&◌, if◌then◌else◌, List, [], ◌∷◌, Option, Some, None, Ok, Err, length, map, refl, ap, subst, arith}
-use Rattle.std.specs.Prelude.{◌==◌, IsSome, is_some, slice_get, MatchOption, option_and_then, nat_le}
+use Rattle.std.proofs.Common.{◌≡◌, ◌≤◌, ◌<◌, ℕ, zero, suc, ◌-◌, ◌^◌, Bool, true, false, ◌&&◌, if◌then◌else◌, List, [], ◌∷◌, Option, Some, None, Ok, Err, length, map, refl, sym, ap, subst, ◌∙◌, arith}
+use Rattle.std.specs.Prelude.{◌==◌, All, IsSome, is_some, slice_get, MatchOption, option_and_then, nat_le, nat_lt}
+use Rattle.std.specs.List.{list_all}
 use Rattle.std.specs.Option.{option_map, option_map_or, ok_or}
 use Rattle.std.specs.Str.{bytes_eq}
 use Rattle.std.proofs.lemmas.Option.{cond_some}
@@ -14,13 +15,13 @@ use Rattle.ecf_lang.specs.declared.typed.TypedObject.{TypedObject}
 use Rattle.ecf_lang.specs.declared.typed.Signature.{Signature}
 use Rattle.ecf_lang.specs.declared.tx.Tx.{Tx}
 use Rattle.ecf_lang.specs.declared.tx.TxCall.{TxCall}
-use Rattle.ecf_lang.specs.declared.limits.TheConstants.{MAX_FUEL}
+use Rattle.ecf_lang.specs.declared.limits.TheConstants.{MAX_CALLS, MAX_FUEL}
 use Rattle.ecf_lang.specs.declared.receipt.StopCause.TheVariants.{Arity, Arg}
 use Rattle.ecf_lang.specs.Fits.{Fits, CallFits, ArgumentsFit, IsValue, method_at}
 use Rattle.ecf_lang.specs.Signatures.{params_of}
-use Rattle.ecf_lines.specs.Line.{Reading, IsNumbered, words, number_within, number_named, object_names, object_named, method_named, value_of, values_of, tx_of_words}
-use Rattle.ecf_lines.specs.LineLaws.{LinesFit, LinesCallOnce}
-use Rattle.ecf_lines.proofs.PartLaws.{ok_or_ok, parts_of, words_say}
+use Rattle.ecf_lines.specs.Line.{Reading, IsNumbered, words, number_within, number_named, object_names, object_named, method_named, value_of, values_of, has_call_form, tx_of_words}
+use Rattle.ecf_lines.specs.LineLaws.{LinesFit}
+use Rattle.ecf_lines.proofs.PartLaws.{ok_or_ok, CallParts, AsFirst, AsFurther, AreFurther, words_parts, words_say}
 
 -- a number that was read is in its range
 pub in_range : (least most : ℕ) (word : List ℕ) (n : ℕ) → number_within least most word ≡ Some n → (least ≤ n) × (n ≤ most)
@@ -88,43 +89,67 @@ pub as_many : (same : Bool) (m : Reading (List ℕ)) (values : List ℕ) → (if
 as_many true m values e = e
 as_many false m values e = let none : ⊥ = cc in absurd none
 
-pub fits_words : (typed : Typed) (ws : List (List ℕ)) (tx : Tx) → IsNumbered typed → tx_of_words typed ws ≡ Ok tx → Fits typed tx
-fits_words typed [] tx numbered e = let no : ⊥ = cc in absurd no
-fits_words typed (a ∷ []) tx numbered e = let no : ⊥ = cc in absurd no
-fits_words typed (a ∷ b ∷ []) tx numbered e = let no : ⊥ = cc in absurd no
-fits_words typed (a ∷ b ∷ d ∷ []) tx numbered e = let no : ⊥ = cc in absurd no
-fits_words typed (a ∷ b ∷ d ∷ f ∷ args) tx numbered e =
-    let p = parts_of typed a b d f args tx e in
-    let m = method_there typed p.to d p.name p.name_is in
+-- at most MAX_CALLS calls
+pub few_calls : (first : List (List ℕ)) (further : List (List (List ℕ))) → has_call_form (first ∷ further) ≡ true → length further < MAX_CALLS
+few_calls first further e = tested (nat_le 4 (length first)) (list_all (λ (call : List (List ℕ)). nat_le 2 (length call)) further) (length further) MAX_CALLS e where
+  tested : (a b : Bool) (m n : ℕ) → (a && b && nat_lt m n) ≡ true → m < n
+  tested true true m n e = grind arith
+  tested true false m n e = let no : ⊥ = cc in absurd no
+  tested false b m n e = let no : ⊥ = cc in absurd no
+
+call_fits : (typed : Typed) (object method : List ℕ) (args : List (List ℕ)) (call : TxCall) → IsNumbered typed → CallParts typed object method args call → CallFits typed call
+call_fits typed object method args call numbered p =
+    let m = method_there typed call.object method call.method p.name_is in
     let named = m.1 in
     let signatures = numbered.signatures in
-    let read = ok_or_ok (values_of typed (params_of typed p.name) args) Arg p.values (as_many (length args == length (params_of typed p.name)) (ok_or (values_of typed (params_of typed p.name) args) Arg) p.values p.values_are) in
-    let fit = are_values typed (params_of typed p.name) args p.values read in
-    let limit = in_range 1 MAX_FUEL f p.limit p.limit_is in
-    let asked : TxCall = record { object = p.to; method = p.name; args = p.values } in
-    let call : CallFits typed asked = record {
+    let params = params_of typed call.method in
+    let read = ok_or_ok (values_of typed params args) Arg call.args (as_many (length args == length params) (ok_or (values_of typed params args) Arg) call.args p.values_are) in
+    let fit = are_values typed params args call.args read in
+    record {
       method = m.0;
-      arguments = signed typed (slice_get typed.signatures p.name) p.values (there_is typed.signatures p.name (omega (arith, named, signatures))) fit;
-    } in
-    subst (λ t. Fits typed t) p.whole (record {
-      some_call = omega arith;
-      few_calls = omega arith;
-      calls = All-cons (CallFits typed) asked [] call (All-nil (CallFits typed));
-      some_fuel = limit.0;
-      fuel = limit.1;
-    })
+      arguments = signed typed (slice_get typed.signatures call.method) call.args (there_is typed.signatures call.method (omega (arith, named, signatures))) fit;
+    }
+
+further_fits : (typed : Typed) (ws : List (List ℕ)) (call : TxCall) → IsNumbered typed → AsFurther typed ws call → CallFits typed call
+further_fits typed [] call numbered p = absurd p
+further_fits typed (a ∷ []) call numbered p = absurd p
+further_fits typed (a ∷ b ∷ args) call numbered p = call_fits typed a b args call numbered p
+
+all_fit : (typed : Typed) (further : List (List (List ℕ))) (calls : List TxCall) → IsNumbered typed → AreFurther typed further calls → (length calls ≡ length further) × All (CallFits typed) calls
+all_fit typed [] [] numbered p = (refl, All-nil (CallFits typed))
+all_fit typed [] (call ∷ calls) numbered p = absurd p
+all_fit typed (ws ∷ more) [] numbered p = absurd p
+all_fit typed (ws ∷ more) (call ∷ calls) numbered p =
+    let rest = all_fit typed more calls numbered p.1 in
+    let same = rest.0 in
+    (omega (arith, same), All-cons (CallFits typed) call calls (further_fits typed ws call numbered p.0) rest.1)
+
+-- the first call fits, and so does the fuel limit
+first_fits : (typed : Typed) (ws : List (List ℕ)) (limit : ℕ) (call : TxCall) → IsNumbered typed → AsFirst typed ws limit call → (1 ≤ limit) × (limit ≤ MAX_FUEL) × CallFits typed call
+first_fits typed [] limit call numbered p = absurd p
+first_fits typed (a ∷ []) limit call numbered p = absurd p
+first_fits typed (a ∷ b ∷ []) limit call numbered p = absurd p
+first_fits typed (a ∷ b ∷ d ∷ []) limit call numbered p = absurd p
+first_fits typed (a ∷ b ∷ d ∷ f ∷ args) limit call numbered p =
+    let fuel = in_range 1 MAX_FUEL f limit p.0 in
+    (fuel.0, fuel.1, call_fits typed b d args call numbered p.1)
+
+pub fits_words : (typed : Typed) (ws : List (List ℕ)) (tx : Tx) → IsNumbered typed → tx_of_words typed ws ≡ Ok tx → Fits typed tx
+fits_words typed ws tx numbered e =
+    let w = words_parts typed ws tx e in
+    let p = w.parts in
+    let few = few_calls p.first p.further (sym (ap has_call_form p.all_are) ∙ w.form) in
+    let first = first_fits typed p.first tx.fuel p.call numbered p.first_is in
+    let rest = all_fit typed p.further p.calls numbered p.further_are in
+    let same = rest.0 in
+    let count : length tx.calls ≡ suc (length p.calls) = ap length p.calls_are in
+    record {
+      some_call = omega (arith, count);
+      few_calls = omega (arith, count, same, few);
+      calls = subst (All (CallFits typed)) (sym p.calls_are) (All-cons (CallFits typed) p.call p.calls first.2 rest.1);
+      some_fuel = first.0;
+      fuel = first.1;
+    }
 
 pub lines_fit : LinesFit
 lines_fit typed line tx numbered e = let said = words_say typed line tx e in fits_words typed (words line) tx numbered said.1
-
-calls_once : (typed : Typed) (ws : List (List ℕ)) (tx : Tx) → tx_of_words typed ws ≡ Ok tx → length tx.calls ≡ 1
-calls_once typed [] tx e = let no : ⊥ = cc in absurd no
-calls_once typed (a ∷ []) tx e = let no : ⊥ = cc in absurd no
-calls_once typed (a ∷ b ∷ []) tx e = let no : ⊥ = cc in absurd no
-calls_once typed (a ∷ b ∷ d ∷ []) tx e = let no : ⊥ = cc in absurd no
-calls_once typed (a ∷ b ∷ d ∷ f ∷ args) tx e =
-    let p = parts_of typed a b d f args tx e in
-    subst (λ (t : Tx). length t.calls ≡ 1) p.whole refl
-
-pub lines_call_once : LinesCallOnce
-lines_call_once typed line tx e = let said = words_say typed line tx e in calls_once typed (words line) tx said.1

@@ -1,8 +1,8 @@
 -- What a line spells is what it says.
-use Rattle.std.proofs.Common.{◌≡◌, ◌≢◌, inl, inr, ◌≤◌, ◌<◌, ℕ, ◌-◌, ◌^◌, Bool, true, false, cond, ◌&&◌, ◌||◌, if◌then◌else◌, List, [], ◌∷◌, ◌++◌, Option, Some, None, Ok, Err, length, get_or, refl, sym, ap, subst, ◌∙◌, arith, ltb}
-use Rattle.std.specs.Prelude.{◌==◌, is_some, option_and_then, nat_le}
+use Rattle.std.proofs.Common.{◌≡◌, ◌≢◌, inl, inr, ◌≤◌, ◌<◌, ℕ, suc, ◌-◌, ◌^◌, Bool, true, false, cond, ◌&&◌, ◌||◌, if◌then◌else◌, List, [], ◌∷◌, ◌++◌, Option, Some, None, Ok, Err, length, get_or, refl, sym, ap, subst, ◌∙◌, arith, ltb}
+use Rattle.std.specs.Prelude.{◌==◌, is_some, option_and_then, nat_le, nat_lt}
 use Rattle.std.specs.Bool.{MatchBool}
-use Rattle.std.specs.List.{list_any, onto_first, join_with_byte, position_or_len}
+use Rattle.std.specs.List.{list_all, list_any, onto_first, join_with_byte, position_or_len}
 use Rattle.std.specs.Option.{ok_or}
 use Rattle.std.specs.Str.{bytes_eq}
 use Rattle.std.specs.Cmp.Lexicographic.{told_text}
@@ -14,17 +14,13 @@ use Rattle.ecf_lang.specs.declared.tree.Ty.TheVariants.{Num, Flag, Addr}
 use Rattle.ecf_lang.specs.declared.typed.Typed.{Typed}
 use Rattle.ecf_lang.specs.declared.tx.Tx.{Tx}
 use Rattle.ecf_lang.specs.declared.tx.TxCall.{TxCall}
-use Rattle.ecf_lang.specs.declared.limits.TheConstants.{MAX_FUEL}
-use Rattle.ecf_lang.specs.declared.receipt.StopCause.TheVariants.{Arity, Arg}
+use Rattle.ecf_lang.specs.declared.limits.TheConstants.{MAX_CALLS, MAX_FUEL}
+use Rattle.ecf_lang.specs.declared.receipt.StopCause.TheVariants.{Form, Arity, Arg}
 use Rattle.ecf_lang.specs.Fits.{method_at}
 use Rattle.ecf_lang.specs.Signatures.{params_of}
-use Rattle.ecf_lines.specs.Line.{Reading, ◌>>=◌, words, is_empty, is_skipped, number_within, number_named, object_names, object_named, method_named, value_of, values_of, arguments_of, tx_of_words, line_of}
-use Rattle.ecf_lines.specs.Spelled.{has_space, SpellsNumber, IsNamed, SpellsValue, SpellsValues, SpellsTx}
-
--- two tests that both fail
-neither : (a b : Bool) → (a || b) ≡ false → (a ≡ false) × (b ≡ false)
-neither true b e = let none : ⊥ = cc in absurd none
-neither false b e = (refl, e)
+use Rattle.ecf_lines.specs.Line.{Reading, ◌>>=◌, words, is_empty, is_skipped, is_semicolon, number_within, number_named, object_names, value_of, values_of, arguments_of, callee_of, first_call_of, further_call_of, further_calls_of, calls_in, has_call_form, has_form, submitter_of, tx_of_calls, tx_of_words, line_of}
+use Rattle.ecf_lines.specs.Spelled.{has_space, with_semicolons, SpellsNumber, IsNamed, SpellsValue, SpellsValues, SpellsCall, SpellsFurther, SpellFurther, SpellsTx}
+use Rattle.ecf_lines.proofs.SaidLaws.{neither}
 
 -- a word ends at the first space
 word_ends : (word rest : List ℕ) → has_space word ≡ false → words (word ++ 32 ∷ rest) ≡ word ∷ words rest
@@ -107,12 +103,63 @@ values_read typed (ty ∷ params) (word ∷ more) (value ∷ values) spelled =
 same_length : (m n : ℕ) → m ≡ n → (m == n) ≡ true
 same_length m n e = grind arith
 
-module _ (typed : Typed) (submitter object method fuel : List ℕ) (args : List (List ℕ)) where
-  abbrev all : List (List ℕ)
-  all = submitter ∷ object ∷ method ∷ fuel ∷ args
+-- what a call reads
+record Called (typed : Typed) (object method : List ℕ) (args : List (List ℕ)) (call : TxCall) : Type 0 where
+  pub callee_is : callee_of typed object method ≡ Ok (call.object, call.method)
+  pub args_are : arguments_of typed call.method args ≡ Ok call.args
 
-  whole : (from to name limit : ℕ) (values : List ℕ) → list_any is_empty all ≡ false → number_within 0 (2 ^ 32 - 1) submitter ≡ Some from → object_named typed object ≡ Some to → method_named typed to method ≡ Some name → number_within 1 MAX_FUEL fuel ≡ Some limit → arguments_of typed name args ≡ Ok values → tx_of_words typed all ≡ Ok (record { submitter = from; fuel = limit; calls = record { object = to; method = name; args = values } ∷ [] })
-  whole from to name limit values full from_is to_is name_is limit_is e = rw (full, from_is, to_is, name_is, limit_is, e) refl
+call_read : (typed : Typed) (object method : List ℕ) (args : List (List ℕ)) (call : TxCall) → SpellsCall typed object method args call → Called typed object method args call
+call_read typed object method args call s =
+    let params = params_of typed call.method in
+    let read = values_read typed params args call.args s.args_are in
+    let to_is = name_read (object_names typed) object call.object s.object_is in
+    let name_is = method_read (number_named typed.names method) (λ name. is_some (method_at typed call.object name)) call.method (name_read typed.names method call.method s.method_is) s.has_method in
+    record {
+      callee_is = rw (to_is, name_is) refl;
+      args_are =
+          ap (λ b. if b then ok_or (values_of typed params args) Arg else Err Arity) (same_length (length args) (length params) read.lengths)
+          ∙ ap (λ o. ok_or o Arg) read.values_are;
+    }
+
+further_read : (typed : Typed) (ws : List (List ℕ)) (call : TxCall) → SpellsFurther typed ws call → (nat_le 2 (length ws) ≡ true) × (further_call_of typed ws ≡ Ok call)
+further_read typed [] call s = absurd s
+further_read typed (a ∷ []) call s = absurd s
+further_read typed (a ∷ b ∷ args) call s =
+    let p = call_read typed a b args call s in
+    (two (length args), rw (p.callee_is, p.args_are) refl)
+  where
+    two : (n : ℕ) → nat_le 2 (suc (suc n)) ≡ true
+    two n = grind arith
+
+all_read : (typed : Typed) (further : List (List (List ℕ))) (calls : List TxCall) → SpellFurther typed further calls → (list_all (λ (words : List (List ℕ)). nat_le 2 (length words)) further ≡ true) × (further_calls_of typed further ≡ Ok calls)
+all_read typed [] [] s = (refl, refl)
+all_read typed [] (call ∷ calls) s = absurd s
+all_read typed (ws ∷ more) [] s = absurd s
+all_read typed (ws ∷ more) (call ∷ calls) s =
+    let first = further_read typed ws call s.0 in
+    let rest = all_read typed more calls s.1 in
+    (rw (first.0, rest.0) refl, rw (first.1, rest.1) refl)
+
+-- words before the first `;` are the words of one call
+in_front : (first rest : List (List ℕ)) (others : List (List (List ℕ))) → list_any is_semicolon first ≡ false → calls_in rest ≡ [] ∷ others → calls_in (first ++ rest) ≡ first ∷ others
+in_front [] rest others e h = h
+in_front (w ∷ ws) rest others e h =
+    let t = neither (is_semicolon w) (list_any is_semicolon ws) e in
+    ap (λ b. cond b ([] ∷ calls_in (ws ++ rest)) (onto_first w (calls_in (ws ++ rest)))) t.0
+    ∙ ap (onto_first w) (in_front ws rest others t.1 h)
+
+behind : (further : List (List (List ℕ))) → list_any (list_any is_semicolon) further ≡ false → calls_in (with_semicolons further) ≡ [] ∷ further
+behind [] e = refl
+behind (ws ∷ more) e =
+    let t = neither (list_any is_semicolon ws) (list_any (list_any is_semicolon) more) e in
+    ap (λ calls. [] ∷ calls) (in_front ws (with_semicolons more) more t.0 (behind more t.1))
+
+-- enough calls, and few enough
+form_read : (first : List (List ℕ)) (further : List (List (List ℕ))) → 4 ≤ length first → list_all (λ (words : List (List ℕ)). nat_le 2 (length words)) further ≡ true → length further < MAX_CALLS → has_call_form (first ∷ further) ≡ true
+form_read first further four two few = tested (length first) (list_all (λ (words : List (List ℕ)). nat_le 2 (length words)) further) (length further) MAX_CALLS four two few where
+  tested : (l : ℕ) (b : Bool) (m n : ℕ) → 4 ≤ l → b ≡ true → m < n → (nat_le 4 l && b && nat_lt m n) ≡ true
+  tested l true m n four e few = grind arith
+  tested l false m n four e few = let no : ⊥ = cc in absurd no
 
 abbrev first_of : List (List ℕ) → List ℕ
 first_of [] = []
@@ -133,21 +180,27 @@ goes_on (x ∷ xs) h = hash (x == 35) x xs refl h
 
 pub spelled_is_said : (typed : Typed) (line : List ℕ) (tx : Tx) → SpellsTx typed line tx → line_of typed line ≡ Ok (Some tx)
 spelled_is_said typed line tx s =
-    let more = s.object ∷ s.method ∷ s.fuel ∷ s.args in
+    let first = s.submitter ∷ s.object ∷ s.method ∷ s.fuel ∷ s.args in
+    let more = s.object ∷ s.method ∷ s.fuel ∷ (s.args ++ with_semicolons s.further) in
     let words_are : words line ≡ s.submitter ∷ more = ap words s.line_is ∙ words_joined s.submitter more s.apart in
-    let params = params_of typed s.call.method in
-    let read = values_read typed params s.args s.call.args s.call_is.args_are in
-    let args_are : arguments_of typed s.call.method s.args ≡ Ok s.call.args =
-    ap (λ b. if b then ok_or (values_of typed params s.args) Arg else Err Arity) (same_length (length s.args) (length params) read.lengths)
-    ∙ ap (λ o. ok_or o Arg) read.values_are in
+    let calls_are : calls_in (s.submitter ∷ more) ≡ first ∷ s.further = in_front first (with_semicolons s.further) s.further s.one_first (behind s.further s.one_each) in
+    let further = all_read typed s.further s.calls s.calls_are in
+    let four : 4 ≤ length first = omega arith in
+    let form : has_call_form (calls_in (s.submitter ∷ more)) ≡ true = ap has_call_form calls_are ∙ form_read first s.further four further.0 s.few in
     let fits = s.submitter_fits in
     let from_is = number_read 0 (2 ^ 32 - 1) s.submitter tx.submitter s.submitter_is (omega arith) (omega (arith, fits)) in
-    let to_is = name_read (object_names typed) s.object s.call.object s.call_is.object_is in
-    let name_is = method_read (number_named typed.names s.method) (λ name. is_some (method_at typed s.call.object name)) s.call.method (name_read typed.names s.method s.call.method s.call_is.method_is) s.call_is.has_method in
+    let has : has_form (s.submitter ∷ more) ≡ true = ap (λ b. if b then false else has_call_form (calls_in (s.submitter ∷ more))) s.full ∙ form in
+    let submitter_is : submitter_of (s.submitter ∷ more) ≡ Ok tx.submitter =
+    ap (λ b. if b then ok_or (number_within 0 (2 ^ 32 - 1) s.submitter) Form else Err Form) has ∙ ap (λ o. ok_or o Form) from_is in
+    let call = call_read typed s.object s.method s.args s.call s.call_is in
     let limit_is = number_read 1 MAX_FUEL s.fuel tx.fuel s.fuel_is s.some_fuel s.fuel_fits in
-    let made = whole typed s.submitter s.object s.method s.fuel s.args tx.submitter s.call.object s.call.method tx.fuel s.call.args s.full from_is to_is name_is limit_is args_are in
-    let calls = ap (λ (calls : List TxCall). let made : Reading Tx = Ok (record { submitter = tx.submitter; fuel = tx.fuel; calls = calls }) in made) (sym s.one_call) in
+    let first_is : first_call_of typed first ≡ Ok (tx.fuel, s.call) = rw (call.callee_is, limit_is, call.args_are) refl in
+    let calls = ap (λ (calls : List TxCall). let made : Reading Tx = Ok (record { submitter = tx.submitter; fuel = tx.fuel; calls = calls }) in made) (sym s.all_calls) in
+    let made : tx_of_words typed (s.submitter ∷ more) ≡ Ok tx =
+    ap (λ m. m >>= (λ submitter. tx_of_calls typed submitter (calls_in (s.submitter ∷ more)))) submitter_is
+    ∙ ap (tx_of_calls typed tx.submitter) calls_are
+    ∙ rw (first_is, further.1) calls in
     let say : Reading Tx → Reading (Option Tx) = λ m. m >>= (λ tx. Ok (Some tx)) in
     let skip = goes_on line (ap (λ ws. is_numeral (first_of ws)) words_are ∙ s.submitter_is.numeral) in
     ap (λ b. if b then Ok None else say (tx_of_words typed (words line))) skip
-    ∙ ap say (ap (tx_of_words typed) words_are ∙ made ∙ calls)
+    ∙ ap say (ap (tx_of_words typed) words_are ∙ made)

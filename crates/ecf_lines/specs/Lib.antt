@@ -2,3 +2,5 @@ pub mod Line
 pub mod OneLine
 pub mod Spelled
 pub mod LineLaws
+pub mod Stream
+pub mod Cases

@@ -1,7 +1,8 @@
 -- What a line of a stream says: nothing where it is skipped, else a transaction, or the first cause why it is none.
--- A transaction is spelled `submitter object method fuel arg ..`, with one space between words and none at the ends.
-use Rattle.std.specs.Prelude.{ℕ, ◌-◌, ◌^◌, ◌==◌, ◌≤◌, Bool, true, ◌&&◌, nat_le, if◌then◌else◌, List, [], ◌∷◌, length, map, position, codes, Option, Some, None, is_some, option_and_then, Result, Ok, Err}
-use Rattle.std.specs.List.{list_any, slice_split}
+-- A transaction is spelled `submitter object method fuel arg .. ; object method arg ..`, with one space between words and none at the
+-- ends; a `;` stands before each further call.
+use Rattle.std.specs.Prelude.{ℕ, ◌-◌, ◌^◌, ◌==◌, ◌≤◌, Bool, true, false, ◌&&◌, nat_lt, nat_le, if◌then◌else◌, List, [], ◌∷◌, length, map, position, codes, Option, Some, None, is_some, option_and_then, Result, Ok, Err}
+use Rattle.std.specs.List.{list_all, list_any, slice_split}
 use Rattle.std.specs.Option.{option_map, ok_or}
 use Rattle.std.specs.Str.{bytes_eq}
 use Rattle.ecf_decimal.specs.Decimal.{is_numeral, number_value}
@@ -10,9 +11,10 @@ use Rattle.ecf_lang.specs.declared.tree.Ty.TheVariants.{Num, Flag, Addr}
 use Rattle.ecf_lang.specs.declared.typed.Typed.{Typed}
 use Rattle.ecf_lang.specs.declared.typed.TypedObject.{TypedObject}
 use Rattle.ecf_lang.specs.declared.tx.Tx.{Tx}
+use Rattle.ecf_lang.specs.declared.tx.TxCall.{TxCall}
 use Rattle.ecf_lang.specs.declared.receipt.StopCause.{StopCause}
 use Rattle.ecf_lang.specs.declared.receipt.StopCause.TheVariants.{Form, Object, Method, Fuel, Arity, Arg}
-use Rattle.ecf_lang.specs.declared.limits.TheConstants.{MAX_OBJECTS, MAX_FUEL}
+use Rattle.ecf_lang.specs.declared.limits.TheConstants.{MAX_OBJECTS, MAX_CALLS, MAX_FUEL}
 use Rattle.ecf_lang.specs.Fits.{method_at}
 use Rattle.ecf_lang.specs.Signatures.{params_of}
 
@@ -78,16 +80,71 @@ abbrev pub arguments_of : Typed → ℕ → List (List ℕ) → Reading (List �
 arguments_of typed method args =
     if length args == length (params_of typed method) then ok_or (values_of typed (params_of typed method) args) Arg else Err Arity
 
--- the transaction that words spell; what is asked of them is asked in this order
-abbrev pub tx_of_words : Typed → List (List ℕ) → Reading Tx
-tx_of_words typed (submitter ∷ object ∷ method ∷ fuel ∷ args) =
-    (if list_any is_empty (submitter ∷ object ∷ method ∷ fuel ∷ args) then Err Form else ok_or (number_within 0 (2 ^ 32 - 1) submitter) Form) >>= (λ from.
+-- the object of that name, and its method of that name
+abbrev pub callee_of : Typed → List ℕ → List ℕ → Reading (ℕ × ℕ)
+callee_of typed object method =
     ok_or (object_named typed object) Object >>= (λ to.
     ok_or (method_named typed to method) Method >>= (λ name.
+    Ok (to, name)))
+
+-- the fuel limit and the first call, which stand behind the submitter
+abbrev pub first_call_of : Typed → List (List ℕ) → Reading (ℕ × TxCall)
+first_call_of typed (submitter ∷ object ∷ method ∷ fuel ∷ args) =
+    callee_of typed object method >>= (λ callee.
     ok_or (number_within 1 MAX_FUEL fuel) Fuel >>= (λ limit.
-    arguments_of typed name args >>= (λ values.
-    Ok (record { submitter = from; fuel = limit; calls = record { object = to; method = name; args = values } ∷ [] }))))))
-tx_of_words typed few = Err Form
+    arguments_of typed callee.1 args >>= (λ values.
+    Ok (limit, record { object = callee.0; method = callee.1; args = values }))))
+first_call_of typed few = Err Form
+
+-- a further call
+abbrev pub further_call_of : Typed → List (List ℕ) → Reading TxCall
+further_call_of typed (object ∷ method ∷ args) =
+    callee_of typed object method >>= (λ callee.
+    arguments_of typed callee.1 args >>= (λ values.
+    Ok (record { object = callee.0; method = callee.1; args = values })))
+further_call_of typed few = Err Form
+
+-- further calls, one after the other
+abbrev pub further_calls_of : Typed → List (List (List ℕ)) → Reading (List TxCall)
+further_calls_of typed [] = Ok []
+further_calls_of typed (words ∷ more) =
+    further_call_of typed words >>= (λ call.
+    further_calls_of typed more >>= (λ calls.
+    Ok (call ∷ calls)))
+
+-- the word that stands between calls
+abbrev pub is_semicolon : List ℕ → Bool
+is_semicolon word = bytes_eq word (codes ";")
+
+-- the words of each call
+abbrev pub calls_in : List (List ℕ) → List (List (List ℕ))
+calls_in words = slice_split is_semicolon words
+
+-- from one to MAX_CALLS calls: the first of four words at least, each further one of two at least
+abbrev pub has_call_form : List (List (List ℕ)) → Bool
+has_call_form [] = false
+has_call_form (first ∷ further) = nat_le 4 (length first) && list_all (λ call. nat_le 2 (length call)) further && nat_lt (length further) MAX_CALLS
+
+-- words have the form of a transaction: such calls, and no word is empty
+abbrev pub has_form : List (List ℕ) → Bool
+has_form words = if list_any is_empty words then false else has_call_form (calls_in words)
+
+-- the submitter, where the words have the form of a transaction
+abbrev pub submitter_of : List (List ℕ) → Reading ℕ
+submitter_of [] = Err Form
+submitter_of (submitter ∷ more) = if has_form (submitter ∷ more) then ok_or (number_within 0 (2 ^ 32 - 1) submitter) Form else Err Form
+
+-- the transaction that these calls are, the first of them with the submitter and the fuel limit
+abbrev pub tx_of_calls : Typed → ℕ → List (List (List ℕ)) → Reading Tx
+tx_of_calls typed submitter [] = Err Form
+tx_of_calls typed submitter (first ∷ further) =
+    first_call_of typed first >>= (λ asked.
+    further_calls_of typed further >>= (λ calls.
+    Ok (record { submitter = submitter; fuel = asked.0; calls = asked.1 ∷ calls })))
+
+-- the transaction that words spell; what is asked of them is asked in this order
+abbrev pub tx_of_words : Typed → List (List ℕ) → Reading Tx
+tx_of_words typed words = submitter_of words >>= (λ submitter. tx_of_calls typed submitter (calls_in words))
 
 -- an empty line is skipped, and one that begins with `#`
 abbrev pub is_skipped : List ℕ → Bool

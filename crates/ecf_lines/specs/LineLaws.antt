@@ -11,10 +11,6 @@ use Rattle.ecf_lines.specs.Spelled.{SpellsTx}
 abbrev pub LinesFit : Type 0
 LinesFit = (typed : Typed) (line : List ℕ) (tx : Tx) → IsNumbered typed → line_of typed line ≡ Ok (Some tx) → Fits typed tx
 
--- a line says one call
-abbrev pub LinesCallOnce : Type 0
-LinesCallOnce = (typed : Typed) (line : List ℕ) (tx : Tx) → line_of typed line ≡ Ok (Some tx) → length tx.calls ≡ 1
-
 -- the transaction of a stream of one line fits the contract
 abbrev pub OneLineFits : Type 0
 OneLineFits = (typed : Typed) (bytes : List ℕ) (tx : Tx) → IsNumbered typed → IsOneLine typed bytes tx → Fits typed tx

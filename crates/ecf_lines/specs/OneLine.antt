@@ -13,8 +13,9 @@ pub record IsEndedLine (bytes line : List ℕ) : Type 0 where
   pub single : list_any (λ byte. byte == 10) line ≡ false
   pub short : length line ≤ MAX_LINE_BYTES
 
--- the bytes are one line, which without a CR at its end says this transaction
+-- the bytes are one line, which without a CR at its end says this transaction of one call
 pub record IsOneLine (typed : Typed) (bytes : List ℕ) (tx : Tx) : Type 0 where
   pub line : List ℕ
   pub line_is : IsEndedLine bytes line
   pub says : line_of typed (strip_carriage_return line) ≡ Ok (Some tx)
+  pub one_call : length tx.calls ≡ 1

@@ -1,16 +1,16 @@
 -- How a line spells a transaction, said of the words and not of their reading.
-use Rattle.std.specs.Prelude.{◌≡◌, ◌≢◌, ◌⊎◌, ◌==◌, ◌<◌, ◌≤◌, ◌^◌, ℕ, Bool, true, false, List, [], ◌∷◌, slice_get, Some, IsSome, codes, ⊤}
-use Rattle.std.specs.List.{list_any, join_with_byte}
+use Rattle.std.specs.Prelude.{◌≡◌, ◌≢◌, ◌⊎◌, ◌==◌, ◌<◌, ◌≤◌, ◌^◌, ℕ, Bool, true, false, List, [], ◌∷◌, ◌++◌, length, slice_get, Some, IsSome, codes, ⊤}
+use Rattle.std.specs.List.{flat_map, list_any, join_with_byte}
 use Rattle.ecf_decimal.specs.Decimal.{is_numeral, number_value}
 use Rattle.ecf_lang.specs.declared.tree.Ty.{Ty}
 use Rattle.ecf_lang.specs.declared.tree.Ty.TheVariants.{Num, Flag, Addr}
 use Rattle.ecf_lang.specs.declared.typed.Typed.{Typed}
 use Rattle.ecf_lang.specs.declared.tx.Tx.{Tx}
 use Rattle.ecf_lang.specs.declared.tx.TxCall.{TxCall}
-use Rattle.ecf_lang.specs.declared.limits.TheConstants.{MAX_FUEL}
+use Rattle.ecf_lang.specs.declared.limits.TheConstants.{MAX_CALLS, MAX_FUEL}
 use Rattle.ecf_lang.specs.Fits.{method_at}
 use Rattle.ecf_lang.specs.Signatures.{params_of}
-use Rattle.ecf_lines.specs.Line.{is_empty, object_names}
+use Rattle.ecf_lines.specs.Line.{is_empty, is_semicolon, object_names}
 
 -- there is a space in the word
 abbrev pub has_space : List ℕ → Bool
@@ -45,6 +45,21 @@ pub record SpellsCall (typed : Typed) (object method : List ℕ) (args : List (L
   pub has_method : IsSome (method_at typed call.object call.method)
   pub args_are : SpellsValues typed (params_of typed call.method) args call.args
 
+-- the words of a further call: its object, its method and its arguments
+abbrev pub SpellsFurther : Typed → List (List ℕ) → TxCall → Type 0
+SpellsFurther typed (object ∷ method ∷ args) call = SpellsCall typed object method args call
+SpellsFurther typed few call = ⊥
+
+-- the words of further calls, one after the other
+abbrev pub SpellFurther : Typed → List (List (List ℕ)) → List TxCall → Type 0
+SpellFurther typed [] [] = ⊤
+SpellFurther typed (words ∷ more) (call ∷ calls) = SpellsFurther typed words call × SpellFurther typed more calls
+SpellFurther typed more calls = ⊥
+
+-- the words of further calls, a `;` before each
+abbrev pub with_semicolons : List (List (List ℕ)) → List (List ℕ)
+with_semicolons further = flat_map (λ words. codes ";" ∷ words) further
+
 -- the line spells the transaction: its words, of which none is empty or has a space, joined by single spaces
 pub record SpellsTx (typed : Typed) (line : List ℕ) (tx : Tx) : Type 0 where
   pub submitter : List ℕ
@@ -52,14 +67,20 @@ pub record SpellsTx (typed : Typed) (line : List ℕ) (tx : Tx) : Type 0 where
   pub method : List ℕ
   pub fuel : List ℕ
   pub args : List (List ℕ)
+  pub further : List (List (List ℕ))
   pub call : TxCall
-  pub line_is : line ≡ join_with_byte 32 (submitter ∷ object ∷ method ∷ fuel ∷ args)
-  pub full : list_any is_empty (submitter ∷ object ∷ method ∷ fuel ∷ args) ≡ false
-  pub apart : list_any has_space (submitter ∷ object ∷ method ∷ fuel ∷ args) ≡ false
+  pub calls : List TxCall
+  pub line_is : line ≡ join_with_byte 32 ((submitter ∷ object ∷ method ∷ fuel ∷ args) ++ with_semicolons further)
+  pub full : list_any is_empty ((submitter ∷ object ∷ method ∷ fuel ∷ args) ++ with_semicolons further) ≡ false
+  pub apart : list_any has_space ((submitter ∷ object ∷ method ∷ fuel ∷ args) ++ with_semicolons further) ≡ false
+  pub one_first : list_any is_semicolon (submitter ∷ object ∷ method ∷ fuel ∷ args) ≡ false
+  pub one_each : list_any (list_any is_semicolon) further ≡ false
   pub submitter_is : SpellsNumber submitter tx.submitter
   pub submitter_fits : tx.submitter < 2 ^ 32
-  pub call_is : SpellsCall typed object method args call
-  pub one_call : tx.calls ≡ call ∷ []
   pub fuel_is : SpellsNumber fuel tx.fuel
   pub some_fuel : 1 ≤ tx.fuel
   pub fuel_fits : tx.fuel ≤ MAX_FUEL
+  pub call_is : SpellsCall typed object method args call
+  pub calls_are : SpellFurther typed further calls
+  pub few : length further < MAX_CALLS
+  pub all_calls : tx.calls ≡ call ∷ calls

@@ -1,9 +1,9 @@
 //! What holds of every line, whoever reads it.
 
-ghost use Rattle.ecf_lines.specs.LineLaws.{LinesFit, LinesCallOnce, OneLineFits, OneLineCallsOnce, SaidIsSpelled, SpelledIsSaid};
+ghost use Rattle.ecf_lines.specs.LineLaws.{LinesFit, OneLineFits, OneLineCallsOnce, SaidIsSpelled, SpelledIsSaid};
 
-/// The transaction that a line says fits the contract: its object has the method, and its arguments and its fuel
-/// limit are right.
+/// The transaction that a line says fits the contract: its calls are few enough, their objects have the methods, and
+/// arguments and fuel limit are right.
 pub fn lines_fit()
     ensures { LinesFit }
 {}
@@ -13,11 +13,6 @@ pub fn lines_fit()
 pub fn lines_spell()
     ensures said { SaidIsSpelled }
     ensures spelled { SpelledIsSaid }
-{}
-
-/// The transaction that a line says has one call.
-pub fn lines_call_once()
-    ensures { LinesCallOnce }
 {}
 
 /// The transaction of a stream of one line fits the contract and has one call.

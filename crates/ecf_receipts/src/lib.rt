@@ -1,11 +1,12 @@
-//! Prints a journal as text, version 1: a line for each entry, then the stop, `end` and the cells.
+//! Prints a journal as text: the line that tells the version, a line for each entry, then the stop, `end` and the cells.
+//! The lines are those of both versions; a text of version 1 begins with its entries, each of one call.
 //! Whatever number names nothing of the contract is spelled by no bytes.
 #![tactic(auto)]
 
 ghost use Rattle.std.specs.Prelude.{◌≡◌, map, IfOk};
 ghost use Rattle.std.specs.Arc.{arc_value};
 ghost use Rattle.ecf_texts.specs.Entries.{text_of_entries};
-ghost use Rattle.ecf_texts.specs.Journal.{tail_text, journal_text};
+ghost use Rattle.ecf_texts.specs.Journal.{head_text, tail_text, journal_text};
 
 mod cells;
 mod entries;
@@ -20,6 +21,13 @@ use ecf_lang::receipt::{Entry, Stop};
 use ecf_lang::tx::TxRef;
 use ecf_lang::typed::Typed;
 use std::alloc::{AllocError, Global};
+
+/// The first line of a journal, which tells its version, 2.
+pub fn print_head(alloc: Global) -> Result<Vec<u8>, AllocError>
+    ensures { IfOk result (λ text. text.items ≡ head_text 2) }
+{
+    Vec::from_slice(alloc, b"journal 2\n")
+}
 
 /// The lines of a journal's entries from the place `from` on, counted from 0; none where `from` is past
 /// the last. Their numbers are those that they have in the whole journal. An entry whose row is no place
@@ -54,7 +62,7 @@ pub fn print_tail(
     Ok(text)
 }
 
-/// The text of a whole journal: all lines of its entries, and what stands after them.
+/// The text of a whole journal of version 1: all lines of its entries, and what stands after them.
 pub fn print_journal(
     alloc: Global,
     typed: &Typed,
@@ -64,7 +72,7 @@ pub fn print_journal(
     cells: &[(Cell, u128)],
 ) -> Result<Vec<u8>, AllocError>
     ensures { IfOk result (λ text.
-        text.items ≡ journal_text typed.now (map arc_value txs.now) entries.now stop cells.now) }
+        text.items ≡ journal_text 1 typed.now (map arc_value txs.now) entries.now stop cells.now) }
 {
     let mut text = Vec::new(alloc);
     write_entries(alloc, &mut text, typed, txs, entries, 0)?;

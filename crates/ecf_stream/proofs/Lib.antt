@@ -1,2 +1,9 @@
 pub mod WordLaws
 pub mod NameLaws
+pub mod CallLaws
+pub mod DigitLaws
+pub mod FeedLaws
+pub mod SayingLaws
+pub mod StateLaws
+pub mod ReadLaws
+pub mod GivenLaws

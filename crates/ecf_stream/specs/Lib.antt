@@ -1,3 +1,9 @@
 pub mod StreamFault
 pub mod Lookup
 pub mod OneLine
+pub mod Calls
+pub mod LineState
+pub mod LineReader
+pub mod Saying
+pub mod StreamState
+pub mod StreamReader

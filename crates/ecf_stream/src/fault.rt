@@ -40,3 +40,20 @@ impl From<AllocError> for StreamFault {
         StreamFault::NoMemory
     }
 }
+
+impl StreamFault {
+    /// The cause of a stop that the fault is; want of memory is none.
+    pub fn cause(self) -> Option<StopCause>
+        ensures { result ≡ cause_of self }
+    {
+        match self {
+            StreamFault::Form => Some(StopCause::Form),
+            StreamFault::NoObject => Some(StopCause::Object),
+            StreamFault::NoMethod => Some(StopCause::Method),
+            StreamFault::BadFuel => Some(StopCause::Fuel),
+            StreamFault::Arity => Some(StopCause::Arity),
+            StreamFault::BadArg => Some(StopCause::Arg),
+            StreamFault::NoMemory => None,
+        }
+    }
+}

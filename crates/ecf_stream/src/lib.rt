@@ -1,16 +1,21 @@
-//! Reads the lines of a stream as transactions of a contract.
+//! Reads a stream: its lines, in whatever pieces they come, what each says, and the transactions of the whole, so many at a time.
 #![tactic(auto)]
 
 mod fault;
 mod line;
+mod line_reader;
 mod lookup;
 mod number;
 mod one_line;
+mod saying;
+mod stream_reader;
 
 pub use fault::StreamFault;
 pub use line::{read_tx, read_tx_by};
+pub use line_reader::{Fed, LineReader};
 pub use lookup::Lookup;
 pub use one_line::read_one;
+pub use stream_reader::{Part, READ_BYTES, StreamReader};
 
 #[cfg(test)]
 mod tests;

@@ -14,7 +14,7 @@ use ecf_lang::tx::Tx;
 use ecf_lang::typed::Typed;
 use std::alloc::{AllocError, Global};
 
-/// The transaction of a stream that is one line, ended by an LF; None where the bytes are no such line.
+/// The transaction of one call of a stream that is one line, ended by an LF; None where the bytes are no such line.
 pub fn read_one(alloc: Global, typed: &Typed, bytes: &[u8]) -> Result<Option<Tx>, AllocError>
     requires { IsNumbered typed.now }
     ensures read { IfOk result (λ answer. IfSome answer (IsOneLine typed.now bytes.now)) }
@@ -24,7 +24,8 @@ pub fn read_one(alloc: Global, typed: &Typed, bytes: &[u8]) -> Result<Option<Tx>
         return Ok(None);
     };
     match read_tx(alloc, typed, without_cr(line)) {
-        Ok(said) => Ok(said),
+        Ok(Some(tx)) if tx.calls.len() == 1 => Ok(Some(tx)),
+        Ok(_) => Ok(None),
         Err(StreamFault::NoMemory) => Err(AllocError),
         Err(_) => Ok(None),
     }
