@@ -195,7 +195,7 @@ fn ends_with_put(tx: &Tx, count: usize) -> bool {
             tx.calls.len() == count
                 && call.object == 1
                 && call.method == 1
-                && call.args.as_slice() == [5, 1, 1]
+                && call.args.as_slice() == [5, 1, 1].as_slice()
         }
         [] => false,
     }
@@ -487,7 +487,10 @@ fn stops_at_failed_reads(rt: HostRuntime) -> Result<(), Fail> {
             stop(number, StopCause::Read)
         };
         assert_eq!(rt; read, (count, stopped), "{step} {fails}");
-        assert_eq!(rt; read_all(alloc, &typed, &mut reader, &mut source, 9)?, (0, stopped));
+        assert_eq!(rt;
+            read_all(alloc, &typed, &mut reader, &mut source, 9)?,
+            (0, stopped)
+        );
     }
     Ok(())
 }
