@@ -5,8 +5,6 @@
 mod heap;
 mod initial;
 mod overlay;
-#[cfg(test)]
-mod tests;
 
 pub use heap::Heap;
 pub use initial::genesis;

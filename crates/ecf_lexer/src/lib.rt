@@ -4,8 +4,6 @@
 mod front;
 mod lexer;
 mod spelling;
-#[cfg(test)]
-mod tests;
 
 pub use ecf_grammar::{Kind, Sign, Token, Word};
 pub use lexer::{LexFault, lex};

@@ -2,7 +2,6 @@
 
 use crate::small::{contract_of, report_of, run_of, trace_of};
 use std::alloc::{AllocError, Global};
-use std::process::Abort;
 use std::test::Fail;
 
 const COUNTER: &str = "n = n + 1; return n;";
@@ -101,8 +100,8 @@ fn a_sum_nests_as_deep_as_brackets_may(rt: HostRuntime) -> Result<(), Fail> {
     Ok(())
 }
 
-fn is_small(rt: &impl Abort, alloc: Global, text: &str) -> Result<bool, Fail> {
-    Ok(contract_of(rt, alloc, text)?.is_some())
+fn is_small(alloc: Global, text: &str) -> Result<bool, Fail> {
+    Ok(contract_of(alloc, text)?.is_some())
 }
 
 #[test]
@@ -123,10 +122,10 @@ fn a_small_contract_is_told(rt: HostRuntime) -> Result<(), Fail> {
         "object C { num n; method m(): num { n = n + 1; revert n; } }",
     ];
     for text in small {
-        assert!(rt; is_small(&rt, rt.alloc(), text)?, "{text}");
+        assert!(rt; is_small(rt.alloc(), text)?, "{text}");
     }
     for text in others {
-        assert!(rt; !is_small(&rt, rt.alloc(), text)?, "{text}");
+        assert!(rt; !is_small(rt.alloc(), text)?, "{text}");
     }
     Ok(())
 }

@@ -1,14 +1,12 @@
 //! Small contracts from their texts, a store for them, and runs in a line of text.
 
+use crate::texts::parsed;
 use ecf_interp::built::is_built;
 use ecf_interp::run;
 use ecf_lang::cell::{Cell, CellRead};
-use ecf_lang::limits::MAX_CONTRACT_BYTES;
 use ecf_lang::run::{Outcome, Run};
 use ecf_lang::tx::{Tx, TxCall, fits};
 use ecf_lang::typed::Typed;
-use ecf_lexer::lex;
-use ecf_parser::parse;
 use ecf_small::build;
 use sqlite_items::Items;
 use std::alloc::{AllocError, Global};
@@ -18,14 +16,8 @@ use std::process::Abort;
 use std::test::Fail;
 
 /// The contract of a text, if it is a small one.
-pub(crate) fn contract_of(
-    rt: &impl Abort,
-    alloc: Global,
-    text: &str,
-) -> Result<Option<Typed>, Fail> {
-    assert!(rt; text.len() <= MAX_CONTRACT_BYTES);
-    let tokens = lex(alloc, text.as_bytes())?;
-    let tree = parse(alloc, text.as_bytes(), tokens.as_slice())?;
+pub(crate) fn contract_of(alloc: Global, text: &str) -> Result<Option<Typed>, Fail> {
+    let tree = parsed(alloc, text)??;
     Ok(build(alloc, &tree)?)
 }
 
@@ -146,7 +138,7 @@ pub(crate) fn run_of(
     times: usize,
 ) -> Result<Run, Fail> {
     let text = format!(in alloc; "object A {{ num n; method m(): num {{ {body} }} }}")?;
-    let Some(typed) = contract_of(rt, alloc, text.as_str())? else {
+    let Some(typed) = contract_of(alloc, text.as_str())? else {
         panic!(rt; "not a small contract: {text}");
     };
     let tx = calls_of(alloc, fuel, times)?;

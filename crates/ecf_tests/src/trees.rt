@@ -1,11 +1,10 @@
 //! Texts of contracts against the trees and faults that the grammar in docs/language.md gives them.
 
-use ecf_lang::limits::MAX_CONTRACT_BYTES;
+use crate::texts::parsed;
 use ecf_lang::tree::Tree;
-use ecf_lexer::lex;
-use ecf_parser::{SyntaxFault, parse};
+use ecf_lexer::LexFault;
+use ecf_parser::SyntaxFault;
 use std::alloc::{AllocError, Global};
-use std::process::Abort;
 use std::test::Fail;
 
 const METHOD: &str = "object A { method m(): num { ";
@@ -18,18 +17,15 @@ fn too_deep(token: u32) -> Option<SyntaxFault> {
     Some(SyntaxFault::TooDeep { token })
 }
 
-// Expects this fault, or a tree where there is none.
-fn expect_fault(
-    rt: &impl Abort,
-    alloc: Global,
-    text: &str,
-    fault: Option<SyntaxFault>,
-) -> Result<(), Fail> {
-    assert!(rt; text.len() <= MAX_CONTRACT_BYTES);
-    let tokens = lex(alloc, text.as_bytes())?;
-    let answer = parse(alloc, text.as_bytes(), tokens.as_slice());
-    assert_eq!(rt; answer.err(), fault, "{text}");
-    Ok(())
+/// The fault of a text, or none where it has a tree.
+fn fault_of(alloc: Global, text: &str) -> Result<Option<SyntaxFault>, LexFault> {
+    Ok(parsed(alloc, text)?.err())
+}
+
+/// The fault of a method's body.
+fn fault_of_body(alloc: Global, body: &str) -> Result<Option<SyntaxFault>, Fail> {
+    let text = format!(in alloc; "{METHOD}{body}")?;
+    Ok(fault_of(alloc, text.as_str())?)
 }
 
 #[test]
@@ -52,7 +48,7 @@ fn a_file_is_read_or_refused_at_its_token(rt: HostRuntime) -> Result<(), Fail> {
         ("object A { method m(a: num,): num { } }", at(10)),
     ];
     for (text, fault) in rows {
-        expect_fault(&rt, rt.alloc(), text, fault)?;
+        assert_eq!(rt; fault_of(rt.alloc(), text)?, fault);
     }
     Ok(())
 }
@@ -85,29 +81,25 @@ fn a_body_is_read_or_refused_at_its_token(rt: HostRuntime) -> Result<(), Fail> {
         ("x = 1; }", at(15)),
     ];
     for (body, fault) in rows {
-        let alloc = rt.alloc();
-        let mut text = String::from_str(alloc, METHOD)?;
-        text.push_str(body)?;
-        expect_fault(&rt, alloc, text.as_str(), fault)?;
+        assert_eq!(rt; fault_of_body(rt.alloc(), body)?, fault);
     }
     Ok(())
 }
 
-// A body that begins with one text, has another so many times, and ends with a third.
-fn nested(
+/// The fault of a body that begins with one text, has another so many times, and ends with a third.
+fn fault_of_nested(
     alloc: Global,
     before: &str,
     open: &str,
     times: usize,
     after: &str,
-) -> Result<String, AllocError> {
-    let mut text = String::from_str(alloc, METHOD)?;
-    text.push_str(before)?;
+) -> Result<Option<SyntaxFault>, Fail> {
+    let mut body = String::from_str(alloc, before)?;
     for _ in 0..times {
-        text.push_str(open)?;
+        body.push_str(open)?;
     }
-    text.push_str(after)?;
-    Ok(text)
+    body.push_str(after)?;
+    fault_of_body(alloc, body.as_str())
 }
 
 #[test]
@@ -127,14 +119,13 @@ fn the_65th_open_bracket_is_too_deep(rt: HostRuntime) -> Result<(), Fail> {
         ("x = ", "(", 61, ") (((", at(73)),
     ];
     for (before, open, times, after, fault) in rows {
-        let alloc = rt.alloc();
-        let text = nested(alloc, before, open, times, after)?;
-        expect_fault(&rt, alloc, text.as_str(), fault)?;
+        let found = fault_of_nested(rt.alloc(), before, open, times, after)?;
+        assert_eq!(rt; found, fault);
     }
     Ok(())
 }
 
-// The tree as it is shown, without the names of the types that lists, boxes and names are kept in, and without braces.
+/// The tree as it is shown, without the names of the types that lists, boxes and names are kept in, and without braces.
 fn outline(alloc: Global, tree: &Tree) -> Result<String, AllocError> {
     let mut shown = format!(in alloc; "{tree:?}")?;
     for word in [
@@ -149,16 +140,13 @@ fn outline(alloc: Global, tree: &Tree) -> Result<String, AllocError> {
     Ok(shown)
 }
 
-fn expect_tree(rt: &impl Abort, alloc: Global, body: &str, stmts: &str) -> Result<(), Fail> {
-    let mut text = String::from_str(alloc, METHOD)?;
-    text.push_str(body)?;
-    text.push_str(" } }")?;
-    assert!(rt; text.len() <= MAX_CONTRACT_BYTES);
-    let tokens = lex(alloc, text.as_bytes())?;
-    let tree = parse(alloc, text.as_bytes(), tokens.as_slice())?;
-    let shown = outline(alloc, &tree)?;
-    assert!(rt; shown.contains(stmts), "{shown}");
-    Ok(())
+/// The outline of a file with a method that has this body, or its fault.
+fn outline_of(alloc: Global, body: &str) -> Result<String, Fail> {
+    let text = format!(in alloc; "{METHOD}{body} }} }}")?;
+    match parsed(alloc, text.as_str())? {
+        Ok(tree) => Ok(outline(alloc, &tree)?),
+        Err(fault) => Ok(format!(in alloc; "{fault:?}")?),
+    }
 }
 
 #[test]
@@ -198,7 +186,8 @@ fn a_tree_has_its_shape_and_places(rt: HostRuntime) -> Result<(), Fail> {
         ),
     ];
     for (body, stmts) in rows {
-        expect_tree(&rt, rt.alloc(), body, stmts)?;
+        let shown = outline_of(rt.alloc(), body)?;
+        assert!(rt; shown.contains(stmts), "{shown}");
     }
     Ok(())
 }

@@ -11,6 +11,3 @@ mod search;
 mod versions;
 
 pub use versions::{Snapshot, Versions};
-
-#[cfg(test)]
-mod tests;

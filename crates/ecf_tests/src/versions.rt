@@ -1,9 +1,9 @@
-//! What no clause says: that the calls give an answer, below and above the sizes at which pages are cut, and that
-//! snapshots stay as they are. A heap that is written alike is what they are held against.
+//! Versions below and above the sizes at which pages are cut, and snapshots, which stay as they are. Both are held
+//! against a heap that is written alike.
 
-use crate::{Snapshot, Versions};
 use ecf_heap::Heap;
 use ecf_lang::cell::{Cell, CellRead};
+use ecf_versions::{Snapshot, Versions};
 use std::alloc::{AllocError, Global};
 use std::test::*;
 
