@@ -2,7 +2,5 @@
 #![tactic(auto)]
 
 mod digits;
-#[cfg(test)]
-mod tests;
 
 pub use digits::decimal;

@@ -6,9 +6,13 @@
 #![tactic(auto)]
 
 #[cfg(test)]
+mod fits;
+#[cfg(test)]
 mod heaps;
 #[cfg(test)]
 mod initial;
+#[cfg(test)]
+mod numerals;
 #[cfg(test)]
 mod overlays;
 #[cfg(test)]
