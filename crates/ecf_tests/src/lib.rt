@@ -26,4 +26,6 @@ mod tokens;
 #[cfg(test)]
 mod trees;
 #[cfg(test)]
+mod types;
+#[cfg(test)]
 mod versions;
