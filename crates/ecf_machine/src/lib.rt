@@ -106,3 +106,6 @@ pub fn run_one<'a, R: CellRead>(
     } = machine;
     state.into_lone(alloc, inv, outcome)
 }
+
+#[cfg(test)]
+mod tests;
