@@ -116,23 +116,27 @@ continuation_of at [] = record {
 continuation_of at (waits ∷ tasks) = above at waits (continuation_of at tasks)
 
 module _ {R : Type 0} where
+  -- what the machine has besides its tasks
   abbrev pub context_in : Machine R → Context
   context_in machine = record { frame = machine.frame; locals = machine.locals; args = machine.args; backing = machine.state.backing }
 
-  -- where the machine leads: from a piece that gives a value, and from one that acts
+  -- where the machine leads from a piece that gives a value
   abbrev pub from_part : Setting → Machine R → Valued → Control ℕ
   from_part at machine part = resume (continuation_of at machine.tasks) (context_in machine) (part at (context_in machine) machine.state.run)
 
+  -- and from one that acts
   abbrev pub from_action : Setting → Machine R → Acting → Control ℕ
   from_action at machine action = resume_flow (continuation_of at machine.tasks) (context_in machine) (action at (context_in machine) machine.state.run)
 
-  -- from a value, from the method's answer, and from a revert
+  -- from a value
   abbrev pub from_value : Setting → Machine R → ℕ → Control ℕ
   from_value at machine value = (continuation_of at machine.tasks).value (context_in machine) value machine.state.run
 
+  -- from the method's answer
   abbrev pub from_answer : Setting → Machine R → ℕ → Control ℕ
   from_answer at machine value = (continuation_of at machine.tasks).answer (blank (context_in machine)) value machine.state.run
 
+  -- from a revert
   abbrev pub from_revert : Setting → Machine R → Cause → Control ℕ
   from_revert at machine cause = (continuation_of at machine.tasks).revert (blank (context_in machine)) cause machine.state.run
 

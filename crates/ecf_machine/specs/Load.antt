@@ -15,10 +15,12 @@ abbrev pub total_size : {A : Type 0} → (A → ℕ) → List A → ℕ
 total_size size [] = 0
 total_size size (x ∷ xs) = size x + total_size size xs
 
+-- more than the steps of a call up to its first charge, from its parts
 abbrev pub call_step : TypedCall-F ℕ ℕ → ℕ
 call_step (TypedCall-F.External target name args) = target + total_size (λ arg. arg + 3) args + 4
 call_step (TypedCall-F.Internal name args) = total_size (λ arg. arg + 3) args + 4
 
+-- and of an expression
 abbrev pub expr_step : TypedExpr-F ℕ ℕ → ℕ
 expr_step (TypedExpr-F.Product first rest) = first + total_size (λ part. part.1 + 2) rest + 4
 expr_step (TypedExpr-F.Sum first rest) = first + total_size (λ part. part.1 + 2) rest + 4
@@ -38,16 +40,19 @@ size_of = fold-TypedExpr ℕ ℕ call_step expr_step
 unfoldable pub call_size : TypedCall → ℕ
 call_size = fold-TypedCall ℕ ℕ call_step expr_step
 
+-- of the further parts of a sum or product
 abbrev pub parts_size : List (Op × TypedExpr) → ℕ
 parts_size parts = total_size (λ part. size_of part.1 + 2) parts
 
+-- of arguments, or of the parts of an `&&` or `||`
 abbrev pub args_size : List TypedExpr → ℕ
 args_size args = total_size (λ arg. size_of arg + 3) args
 
+-- of the conditions of an `if`
 abbrev pub arms_size : List (TypedExpr × TypedBlock) → ℕ
 arms_size arms = total_size (λ arm. size_of arm.0 + 3) arms
 
--- a transaction's own calls aren't charged
+-- of a transaction's calls, which aren't charged
 abbrev pub calls_size : List TxCall → ℕ
 calls_size calls = total_size (λ call. 9) calls
 
@@ -64,6 +69,7 @@ task_size (task.Next stmts) = 3
 task_size (task.Calls calls) = calls_size calls.now + 1
 task_size _ = 1
 
+-- and what tasks may take
 abbrev pub load : List Task → ℕ
 load tasks = total_size task_size tasks
 

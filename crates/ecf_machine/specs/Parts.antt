@@ -41,11 +41,13 @@ lone_internal at store answers zero here inv name args = revert Depth
 lone_internal at store answers (suc room) here inv name args =
     body_of store (record { here = here; inv = inv; opens = lone_opens answers (lone_internal at store answers room here inv) }) (method_at at.typed.now here name) args
 
--- what calls do in a frame of that object and invocation, where so many more frames may be open
+-- what calls do in a frame of that object and invocation, where so many more frames may be open, by what calls to other
+-- objects do
 abbrev pub opens_by : External → Setting → Store → ℕ → ℕ → ℕ → Opens
 opens_by external.Opens at store room here inv = opens_of (ways at.typed.now store room) here inv
 opens_by (external.Answers answers) at store room here inv = lone_opens answers.now (lone_internal at store answers.now room here inv)
 
+-- the same, by what the setting says of calls to other objects
 unfoldable pub opens_at : Setting → Store → ℕ → ℕ → ℕ → Opens
 opens_at at store room here inv = opens_by at.external at store room here inv
 
@@ -95,15 +97,19 @@ Acting = Setting → Context → Part Flow
 abbrev pub frame_in : Setting → Context → Frame
 frame_in at context = frame_at at context.backing.store context.frame
 
+-- a charge in the frame
 abbrev pub charge_in : ℕ → Setting → Context → Part Unit
 charge_in n at context = charge context.backing.store (frame_in at context) n
 
+-- the value of an expression
 abbrev pub value_in : TypedExpr → Valued
 value_in expr at context = value_of context.backing.store (frame_in at context) context.locals.top expr
 
+-- of several
 abbrev pub values_in : List TypedExpr → Setting → Context → List (Part ℕ)
 values_in exprs at context = map (λ expr. value_in expr at context) exprs
 
+-- of the further parts of a sum or product
 abbrev pub parts_in : List (Op × TypedExpr) → Setting → Context → List (Op × Part ℕ)
 parts_in parts at context = map (λ part. (part.0, value_in part.1 at context)) parts
 
@@ -119,9 +125,11 @@ chain_in total parts at context = chain context.backing.store (frame_in at conte
 abbrev pub further_in : ℕ → Op → ℕ → List (Op × TypedExpr) → Valued
 further_in x op y parts at context = charge_in OPERATOR at context >> (or_revert (op_value op x y) >>= (λ z. chain_in z parts at context))
 
+-- a comparison with its charge, from both values on
 abbrev pub compared_in : ℕ → Op → ℕ → Valued
 compared_in x op y at context = charge_in OPERATOR at context >> or_revert (op_value op x y)
 
+-- a `!` with its charge, from the value on
 abbrev pub not_in : ℕ → Valued
 not_in value at context = charge_in OPERATOR at context >> pure (at_zero value 1 0)
 
@@ -129,9 +137,11 @@ not_in value at context = charge_in OPERATOR at context >> pure (at_zero value 1
 abbrev pub fetch_in : ℕ → ℕ → Valued
 fetch_in field key at context = charge_in READ at context >> fetch context.backing.store (frame_in at context) field key
 
+-- a name
 abbrev pub name_in : Place → Valued
 name_in place at context = name_value context.backing.store (frame_in at context) context.locals.top place
 
+-- a call, from its target and arguments on
 abbrev pub answer_in : TypedCall → Valued
 answer_in call at context = answer_of context.backing.store (frame_in at context) context.locals.top call
 
@@ -163,15 +173,19 @@ entry_in callee args at context = charge_in (call_charge callee) at context >> c
 abbrev pub args_in : Callee → List ℕ → List TypedExpr → Valued
 args_in callee done args at context = each context.backing.store (frame_in at context) (values_in args at context) (λ xs. entry_in callee (done ++ xs) at context)
 
+-- a block
 abbrev pub block_in : TypedBlock → Acting
 block_in block at context = block_of context.backing.store (frame_in at context) block context.locals.top
 
+-- statements one after the other, from any locals
 abbrev pub stmts_of : List TypedStmt → Setting → Context → Action
 stmts_of stmts at context = sequence context.backing.store (frame_in at context) (map (stmt_of context.backing.store (frame_in at context)) stmts)
 
+-- and from the frame's
 abbrev pub stmts_in : List TypedStmt → Acting
 stmts_in stmts at context = stmts_of stmts at context context.locals.top
 
+-- a statement
 abbrev pub stmt_in : TypedStmt → Acting
 stmt_in stmt at context = stmt_of context.backing.store (frame_in at context) stmt context.locals.top
 
@@ -188,6 +202,7 @@ chosen_in value block arms last at context = at_zero value (branch_in arms last 
 abbrev pub turns_of : ℕ → TypedExpr → TypedBlock → Setting → Context → Action
 turns_of n cond body at context = turns context.backing.store (frame_in at context) n cond (block_of context.backing.store (frame_in at context) body)
 
+-- and from the frame's locals
 abbrev pub turns_in : ℕ → TypedExpr → TypedBlock → Acting
 turns_in n cond body at context = turns_of n cond body at context context.locals.top
 
@@ -214,6 +229,7 @@ abbrev pub try_in : ℕ → TypedExpr → ℕ → List TypedExpr → Acting
 try_in n target name args at context =
     value_in target at context >>= (λ to. args_in (callee.Attempt to name) [] args at context >>= (λ v. pure (Continues (slice_set context.locals.top n v))))
 
+-- an assignment to a local or plain field, from the value on
 abbrev pub assign_in : Assignee → ℕ → Acting
 assign_in to value at context = assign context.backing.store (frame_in at context) to value context.locals.top
 
