@@ -8,6 +8,8 @@ mod least;
 mod members;
 mod numbering;
 mod seen;
+#[cfg(test)]
+mod tests;
 
 use ecf_verdicts::members_are;
 pub use edges::edges_of;
