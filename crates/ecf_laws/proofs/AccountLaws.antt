@@ -7,10 +7,11 @@ use Rattle.std.proofs.lemmas.List.{append-nil}
 use Rattle.std.proofs.lemmas.List.Elements.{All-push, All-weaker}
 use Rattle.std.proofs.lemmas.List.Sums.{sum_by-cons, sum_by-append, sum_by_push, sum_by-take-drop}
 use Rattle.ecf_lang.specs.declared.cell.Cell.{Cell}
+use Rattle.ecf_lang.specs.declared.costs.TheConstants.{READ, WRITE}
 use Rattle.ecf_lang.specs.declared.run.Step.{Step}
 use Rattle.ecf_lang.specs.declared.run.Invocation.{Invocation}
 use Rattle.ecf_lang.specs.Store.{Store}
-use Rattle.ecf_lang.specs.Part.{State, Control, Done, Exit, Reverts, RunsOut, Part, after, pay, read_cell, write_cell, attempt_of, begin, note, with_change, with_charge, with_heard, with_answer, as_undone}
+use Rattle.ecf_lang.specs.Part.{State, Control, Done, Exit, Reverts, RunsOut, Part, after, ◌>>=◌, pure, pay, read_cell, write_cell, attempt_of, begin, note, with_change, with_charge, with_heard, with_answer, as_undone}
 use Rattle.ecf_laws.specs.Parts.{end_state}
 use Rattle.std.proofs.lemmas.Option.{same_Some}
 use Rattle.ecf_laws.specs.Laws.{total_charge}
@@ -189,17 +190,21 @@ tried_kept : (inv : ℕ) (m n : Part ℕ) → Accounts ℕ None m n → Accounts
 unfolding attempt_of
 tried_kept inv m n h s stands = caught_kept s (m s) (h s tt)
 
+given_kept : {T : Type 0} (x : T) (s : State) → Kept s (Done x s)
+given_kept x s = record { more = same_marks (marks s.invocations); steps = λ before. before; spent = refl }
+
 module _ (store : Store) where
   pub closed : parts.IsClosed store store Accounts
   closed = record {
-    pures = λ x s h. record { more = same_marks (marks s.invocations); steps = λ before. before; spent = refl };
+    pures = λ x s h. given_kept x s;
     reverts = λ cause s h. record { more = same_marks (marks s.invocations); steps = λ before. before; spent = refl };
     ends = λ s h. record { more = same_marks (marks s.invocations); steps = λ before. before; spent = omega arith };
     binds = λ {o = o} {m = m} {f = f} h k s stands. after_kept o s (m s) f stands (h s stands) k;
     looks = λ h s. h s s;
     pays = pay_kept;
-    reads = read_kept store;
-    writes = write_kept;
+    reads = λ inv cell s h. after_kept (Some inv) s (pay inv READ s) (λ _. read_cell store inv cell) h (pay_kept inv READ s h) (λ _ t k. read_kept store inv cell t k);
+    writes = λ inv cell value x s h. after_kept (Some inv) s (pay inv WRITE s) (λ _. write_cell inv cell value >>= (λ _. pure x)) h (pay_kept inv WRITE s h)
+        (λ _ t k. after_kept (Some inv) t (write_cell inv cell value t) (λ _. pure x) k (write_kept inv cell value t k) (λ _ u l. given_kept x u));
     hears = λ inv value s h. noted_kept s (with_heard value) (λ one. refl) (λ one. refl) inv h;
     answers = λ inv value s h. noted_kept s (with_answer value) (λ one. refl) (λ one. refl) inv h;
     begins = λ object method args {f = f} h s stands. then_kept s _ (length s.invocations) _ (begin_kept object method args s) (h (length s.invocations) _ (get_new s.invocations _));

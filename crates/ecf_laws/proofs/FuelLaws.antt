@@ -2,7 +2,7 @@
 use Rattle.std.proofs.Common.{◌≡◌, ℕ, zero, suc, ◌-◌, ◌<◌, ◌≤◌, Bool, true, false, List, Option, refl, arith}
 use Rattle.std.proofs.lemmas.Bool.Decides.{nat_tests}
 use Rattle.std.specs.Prelude.{if◌then◌else◌, nat_le}
-use Rattle.ecf_lang.specs.declared.costs.TheConstants.{TURN}
+use Rattle.ecf_lang.specs.declared.costs.TheConstants.{TURN, READ, WRITE}
 use Rattle.ecf_lang.specs.declared.run.Invocation.{Invocation}
 use Rattle.ecf_lang.specs.declared.typed.TypedExpr.{TypedExpr}
 use Rattle.ecf_lang.specs.declared.typed.Typed.{Typed}
@@ -44,8 +44,8 @@ module _ (store : Store) where
     binds = λ {m = m} {f = f} h k s. after_falls s.fuel (m s) f (h s) k;
     looks = λ h s. h s s;
     pays = pay_falls;
-    reads = λ inv cell s. omega arith;
-    writes = λ inv cell value s. omega arith;
+    reads = λ inv cell s. after_falls s.fuel (pay inv READ s) (λ _. read_cell store inv cell) (pay_falls inv READ s) (λ _ t. omega arith);
+    writes = λ inv cell value x s. after_falls s.fuel (pay inv WRITE s) (λ _. write_cell inv cell value >>= (λ _. pure x)) (pay_falls inv WRITE s) (λ _ t. omega arith);
     hears = λ inv value s. omega arith;
     answers = λ inv value s. omega arith;
     begins = λ object method args h s. h _ _;

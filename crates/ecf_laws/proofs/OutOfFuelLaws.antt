@@ -1,10 +1,11 @@
 -- Want of fuel leaves none.
 use Rattle.std.proofs.Common.{◌≡◌, ℕ, ◌-◌, Bool, true, false, List, Option, refl, arith}
 use Rattle.std.specs.Prelude.{if◌then◌else◌, nat_le}
+use Rattle.ecf_lang.specs.declared.costs.TheConstants.{READ, WRITE}
 use Rattle.ecf_lang.specs.declared.run.Invocation.{Invocation}
 use Rattle.ecf_lang.specs.declared.run.Outcome.TheVariants.{OutOfFuel}
 use Rattle.ecf_lang.specs.Store.{Store}
-use Rattle.ecf_lang.specs.Part.{State, Control, Done, Exit, Reverts, RunsOut, Part, after, pay, read_cell, write_cell, attempt_of}
+use Rattle.ecf_lang.specs.Part.{State, Control, Done, Exit, Reverts, RunsOut, Part, after, ◌>>=◌, pure, pay, read_cell, write_cell, attempt_of}
 use Rattle.ecf_lang.specs.Meaning.{run, result_of, calls_of, initial_state}
 use Rattle.ecf_laws.specs.Laws.{OutOfFuelUsesAll}
 use Rattle.ecf_laws.proofs.PartLaws as parts
@@ -43,8 +44,8 @@ module _ (store : Store) where
     binds = λ {m = m} {f = f} h k s. after_emptied (m s) f (h s) k;
     looks = λ h s. h s s;
     pays = λ inv n s. paid_emptied n s _ (nat_le n s.fuel);
-    reads = λ inv cell s. tt;
-    writes = λ inv cell value s. tt;
+    reads = λ inv cell s. after_emptied (pay inv READ s) (λ _. read_cell store inv cell) (paid_emptied READ s _ (nat_le READ s.fuel)) (λ _ t. tt);
+    writes = λ inv cell value x s. after_emptied (pay inv WRITE s) (λ _. write_cell inv cell value >>= (λ _. pure x)) (paid_emptied WRITE s _ (nat_le WRITE s.fuel)) (λ _ t. tt);
     hears = λ inv value s. tt;
     answers = λ inv value s. tt;
     begins = λ object method args h s. h _ _;

@@ -28,8 +28,8 @@ pub record IsClosed (A B : Store) (R : (T : Type 0) → Option ℕ → Part T �
   pub binds : {S T : Type 0} {o : Option ℕ} {m n : Part S} {f g : S → Part T} → R _ o m n → ((x : S) → R _ o (f x) (g x)) → R _ o (m >>= f) (n >>= g)
   pub looks : {T : Type 0} {o : Option ℕ} {f g : State → Part T} → ((s : State) → R _ o (f s) (g s)) → R _ o (λ s. f s s) (λ s. g s s)
   pub pays : (inv n : ℕ) → R _ (Some inv) (pay inv n) (pay inv n)
-  pub reads : (inv : ℕ) (cell : Cell) → R _ (Some inv) (read_cell A inv cell) (read_cell B inv cell)
-  pub writes : (inv : ℕ) (cell : Cell) (value : ℕ) → R _ (Some inv) (write_cell inv cell value) (write_cell inv cell value)
+  pub reads : (inv : ℕ) (cell : Cell) → R _ (Some inv) (frames.charged_read A inv cell) (frames.charged_read B inv cell)
+  pub writes : {T : Type 0} (inv : ℕ) (cell : Cell) (value : ℕ) (x : T) → R _ (Some inv) (frames.charged_write inv cell value x) (frames.charged_write inv cell value x)
   pub hears : (inv value : ℕ) → R _ (Some inv) (note (with_heard value) inv) (note (with_heard value) inv)
   pub answers : (inv value : ℕ) → R _ (Some inv) (note (with_answer value) inv) (note (with_answer value) inv)
   pub begins : {T : Type 0} {o : Option ℕ} (object method : ℕ) (args : List ℕ) {f g : ℕ → Part T} → ((inv : ℕ) → R _ (Some inv) (f inv) (g inv)) → R _ o (begin object method args >>= f) (begin object method args >>= g)
@@ -70,7 +70,7 @@ module _ (A B : Store) (R : (T : Type 0) → Option ℕ → Part T → Part T �
       binds = λ h k. closed.binds h k;
       pays = λ n. closed.pays inv n;
       reads = λ field key. closed.reads inv (record { object = here; field = field; key = key });
-      writes = λ field key value. closed.writes inv (record { object = here; field = field; key = key }) value;
+      writes = λ field key value x. closed.writes inv (record { object = here; field = field; key = key }) value x;
       loops = λ a b cond d e conds bodies locals. closed.looks (λ s. turns_alike a b cond d e conds bodies (suc s.fuel) locals);
     }
 

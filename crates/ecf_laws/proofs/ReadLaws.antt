@@ -10,9 +10,10 @@ use Rattle.std.proofs.lemmas.List.{append-nil}
 use Rattle.std.proofs.lemmas.List.Elements.{All-nil, All-cons, All-head, All-tail, All-push, All-contains, All-get_or, Contains-push}
 use Rattle.std.proofs.lemmas.List.Quantifiers.{all_pairs_push}
 use Rattle.ecf_lang.specs.declared.cell.Cell.{Cell}
+use Rattle.ecf_lang.specs.declared.costs.TheConstants.{READ, WRITE}
 use Rattle.ecf_lang.specs.declared.run.Invocation.{Invocation}
 use Rattle.ecf_lang.specs.Store.{Store, Cells, IsRising, cell_cmp, find_cell, read}
-use Rattle.ecf_lang.specs.Part.{State, Control, Done, Exit, Reverts, RunsOut, Part, after, pay, read_cell, write_cell, attempt_of, with_read, begin}
+use Rattle.ecf_lang.specs.Part.{State, Control, Done, Exit, Reverts, RunsOut, Part, after, ◌>>=◌, pure, pay, read_cell, write_cell, attempt_of, with_read, begin}
 use Rattle.ecf_lang.specs.Draft.{AgreesWith}
 use Rattle.ecf_laws.specs.Parts.{end_state}
 use Rattle.std.proofs.lemmas.Option.{same_Some}
@@ -171,8 +172,9 @@ module _ (A B : Store) where
     binds = λ {m = m} {n = n} {f = f} {g = g} h k s before. after_goes s (m s) (n s) f g (h s before) k;
     looks = λ h s. h s s;
     pays = pay_goes;
-    reads = read_goes;
-    writes = write_goes;
+    reads = λ inv cell s h. after_goes s (pay inv READ s) (pay inv READ s) (λ _. read_cell A inv cell) (λ _. read_cell B inv cell) (pay_goes inv READ s h) (λ _ t k. read_goes inv cell t k);
+    writes = λ inv cell value x s h. after_goes s (pay inv WRITE s) (pay inv WRITE s) (λ _. write_cell inv cell value >>= (λ _. pure x)) (λ _. write_cell inv cell value >>= (λ _. pure x)) (pay_goes inv WRITE s h)
+        (λ _ t k. after_goes t (write_cell inv cell value t) (write_cell inv cell value t) (λ _. pure x) (λ _. pure x) (write_goes inv cell value t k) (λ _ u l. still u _ l refl refl));
     hears = λ inv value s h. still s _ h refl refl;
     answers = λ inv value s h. still s _ h refl refl;
     begins = λ object method args {f = f} {g = g} h s before. after_goes s (begin object method args s) (begin object method args s) f g (still s (begin object method args s) before refl refl) h;

@@ -2,13 +2,14 @@
 use Rattle.std.proofs.Common.{◌≡◌, ℕ, ◌-◌, Bool, true, false, List, [], ◌∷◌, ◌++◌, Option, refl, ap, sym, ◌∙◌}
 use Rattle.std.specs.Prelude.{if◌then◌else◌, nat_le, unwrap_or}
 use Rattle.ecf_lang.specs.declared.cell.Cell.{Cell}
+use Rattle.ecf_lang.specs.declared.costs.TheConstants.{READ, WRITE}
 use Rattle.ecf_lang.specs.declared.run.Step.{Step}
 use Rattle.ecf_lang.specs.declared.run.Invocation.{Invocation}
 use Rattle.ecf_lang.specs.declared.run.Outcome.TheVariants.{Answer}
 use Rattle.ecf_lang.specs.declared.tx.Tx.{Tx}
 use Rattle.ecf_lang.specs.declared.typed.Typed.{Typed}
 use Rattle.ecf_lang.specs.Store.{Store, Cells, find_cell, read, set}
-use Rattle.ecf_lang.specs.Part.{State, Control, Done, Exit, Reverts, RunsOut, Part, after, pay, read_cell, write_cell, attempt_of}
+use Rattle.ecf_lang.specs.Part.{State, Control, Done, Exit, Reverts, RunsOut, Part, after, ◌>>=◌, pure, pay, read_cell, write_cell, attempt_of}
 use Rattle.ecf_lang.specs.Meaning.{run, result_of, calls_of, initial_state}
 use Rattle.ecf_laws.specs.Parts.{end_state}
 use Rattle.ecf_laws.specs.Replay.{after_step, after_steps, IsSeen, AreSeen}
@@ -69,8 +70,9 @@ module _ (store : Store) where
     binds = λ {m = m} {f = f} h k s before. after_replayed (m s) f (h s before) k;
     looks = λ h s. h s s;
     pays = λ inv n s h. paid_replayed n s _ (nat_le n s.fuel) h;
-    reads = read_replayed;
-    writes = write_replayed;
+    reads = λ inv cell s h. after_replayed (pay inv READ s) (λ _. read_cell store inv cell) (paid_replayed READ s _ (nat_le READ s.fuel) h) (λ _ t k. read_replayed inv cell t k);
+    writes = λ inv cell value x s h. after_replayed (pay inv WRITE s) (λ _. write_cell inv cell value >>= (λ _. pure x)) (paid_replayed WRITE s _ (nat_le WRITE s.fuel) h)
+        (λ _ t k. after_replayed (write_cell inv cell value t) (λ _. pure x) (write_replayed inv cell value t k) (λ _ u l. l));
     hears = λ inv value s h. record { written = h.written; seen = h.seen };
     answers = λ inv value s h. record { written = h.written; seen = h.seen };
     begins = λ object method args h s before. h _ _ (record { written = before.written; seen = before.seen });

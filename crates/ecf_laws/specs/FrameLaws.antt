@@ -2,6 +2,7 @@
 -- holds of what any form does in two frames of one object.
 use Rattle.std.proofs.Common.{◌≡◌, ℕ, zero, suc, List, [], ◌∷◌, map, Option, Some, None, sym, subst}
 use Rattle.std.specs.Prelude.{Result, Ok, Err}
+use Rattle.ecf_lang.specs.declared.cell.Cell.{Cell}
 use Rattle.ecf_lang.specs.declared.costs.TheConstants.{STATEMENT, LEAF, READ, WRITE, OPERATOR, TEST, EXTERNAL_CALL, INTERNAL_CALL}
 use Rattle.ecf_lang.specs.declared.run.Cause.{Cause}
 use Rattle.ecf_lang.specs.declared.run.Cause.TheVariants.{User, NoMethod}
@@ -19,14 +20,22 @@ use Rattle.ecf_lang.specs.Store.{Store}
 use Rattle.ecf_lang.specs.Part.{Part, ◌>>=◌, pure, revert, pay, read_cell, write_cell}
 use Rattle.ecf_lang.specs.Meaning.{Opens, Frame, Flow, Continues, Returns, Action, go_on, value_of, answer_of, expr_step, call_step, stmt_of, block_of, stmt_step, block_step, name_value, chain, all_true, any_true, first_then, each, at_zero, or_revert, op_value, sequence, flag_of, branch, turns, assign, body_of, locals_of, flow_answer}
 
+-- a read of a cell, behind its charge
+abbrev pub charged_read : Store → ℕ → Cell → Part ℕ
+charged_read store inv cell = pay inv READ >>= (λ _. read_cell store inv cell)
+
+-- a write of a number into a cell, behind its charge, and then a value
+abbrev pub charged_write : {T : Type 0} → ℕ → Cell → ℕ → T → Part T
+charged_write inv cell value x = pay inv WRITE >>= (λ _. write_cell inv cell value >>= (λ _. pure x))
+
 -- the ways in which parts are made keep the relation of a part in one frame of an object to the same part in another
 pub record IsClosed (A B : Store) (here i j : ℕ) (R : (T : Type 0) → Part T → Part T → Type 0) : Type 1 where
   pub pures : {T : Type 0} (x : T) → R _ (pure x) (pure x)
   pub reverts : {T : Type 0} (cause : Cause) → R T (revert cause) (revert cause)
   pub binds : {S T : Type 0} {m n : Part S} {f g : S → Part T} → R _ m n → ((x : S) → R _ (f x) (g x)) → R _ (m >>= f) (n >>= g)
   pub pays : (n : ℕ) → R _ (pay i n) (pay j n)
-  pub reads : (field key : ℕ) → R _ (read_cell A i (record { object = here; field = field; key = key })) (read_cell B j (record { object = here; field = field; key = key }))
-  pub writes : (field key value : ℕ) → R _ (write_cell i (record { object = here; field = field; key = key }) value) (write_cell j (record { object = here; field = field; key = key }) value)
+  pub reads : (field key : ℕ) → R _ (charged_read A i (record { object = here; field = field; key = key })) (charged_read B j (record { object = here; field = field; key = key }))
+  pub writes : {T : Type 0} (field key value : ℕ) (x : T) → R _ (charged_write i (record { object = here; field = field; key = key }) value x) (charged_write j (record { object = here; field = field; key = key }) value x)
   pub loops : (a b : Opens) (cond : TypedExpr) (d e : Action) →
       ((locals : List ℕ) → R _ (value_of A (record { here = here; inv = i; opens = a }) locals cond) (value_of B (record { here = here; inv = j; opens = b }) locals cond)) →
       ((locals : List ℕ) → R _ (d locals) (e locals)) → (locals : List ℕ) →
@@ -90,7 +99,7 @@ module _ (A B : Store) (here i j : ℕ) (R : (T : Type 0) → Part T → Part T 
 
       names : (p : Place) → Alike (name_value A f locals p) (name_value B g locals p)
       names (place.Local n) = closed.binds (closed.pays LEAF) (λ _. closed.pures _)
-      names (place.Plain field) = closed.binds (closed.pays READ) (λ _. closed.reads field 0)
+      names (place.Plain field) = closed.reads field 0
       names (place.Object object) = closed.binds (closed.pays LEAF) (λ _. closed.pures object)
 
       abbrev Parts : Type 0
@@ -101,7 +110,7 @@ module _ (A B : Store) (here i j : ℕ) (R : (T : Type 0) → Part T → Part T 
       expr_layer (TypedExpr-F.Flag v) = closed.binds (closed.pays LEAF) (λ _. closed.pures (flag_of v))
       expr_layer TypedExpr-F.Here = closed.binds (closed.pays LEAF) (λ _. closed.pures here)
       expr_layer (TypedExpr-F.Name p) = names p
-      expr_layer (TypedExpr-F.At field key) = closed.binds key.1 (λ k. closed.binds (closed.pays READ) (λ _. closed.reads field k))
+      expr_layer (TypedExpr-F.At field key) = closed.binds key.1 (λ k. closed.reads field k)
       expr_layer (TypedExpr-F.Call call) = call.1
       expr_layer (TypedExpr-F.Not e) = closed.binds e.1 (λ x. closed.binds (closed.pays OPERATOR) (λ _. closed.pures (at_zero x 1 0)))
       expr_layer (TypedExpr-F.Product first rest) = closed.binds first.1 (λ x. chained x rest)
@@ -154,7 +163,7 @@ module _ (A B : Store) (here i j : ℕ) (R : (T : Type 0) → Part T → Part T 
 
     assign_alike : (to : Assignee) (v : ℕ) (locals : List ℕ) → Alike (assign A f to v locals) (assign B g to v locals)
     assign_alike (assignee.Local n) v locals = closed.pures _
-    assign_alike (assignee.Plain field) v locals = closed.binds (closed.pays WRITE) (λ _. closed.binds (closed.writes field 0 v) (λ _. closed.pures (Continues locals)))
+    assign_alike (assignee.Plain field) v locals = closed.writes field 0 v (Continues locals)
 
     chosen_alike : (arms : List (TypedExpr × ((b : TypedBlock) × BlockAlike b))) (last other : Option Action) → ((locals : List ℕ) → Alike (branch A f [] last locals) (branch B g [] other locals)) → (locals : List ℕ) → Alike
         (branch A f (map (λ (arm : TypedExpr × TypedBlock). (arm.0, block_of A f arm.1)) (map (λ (arm : TypedExpr × ((b : TypedBlock) × BlockAlike b)). (arm.0, arm.1.0)) arms)) last locals)
@@ -173,7 +182,7 @@ module _ (A B : Store) (here i j : ℕ) (R : (T : Type 0) → Part T → Part T 
     stmt_layer (TypedStmt-F.Let n ty e) locals = closed.binds (closed.pays STATEMENT) (λ _. closed.binds (value_alike locals e) (λ v. closed.pures _))
     stmt_layer (TypedStmt-F.Try n target name args) locals = closed.binds (closed.pays STATEMENT) (λ _. closed.binds (value_alike locals target) (λ to. closed.binds (args_alike locals args _ _ (λ xs. closed.binds (closed.pays EXTERNAL_CALL) (λ _. opens.attempt to name xs))) (λ v. closed.pures _)))
     stmt_layer (TypedStmt-F.Set to e) locals = closed.binds (closed.pays STATEMENT) (λ _. closed.binds (value_alike locals e) (λ v. assign_alike to v locals))
-    stmt_layer (TypedStmt-F.SetAt field key e) locals = closed.binds (closed.pays STATEMENT) (λ _. closed.binds (value_alike locals key) (λ k. closed.binds (value_alike locals e) (λ v. closed.binds (closed.pays WRITE) (λ _. closed.binds (closed.writes field k v) (λ _. closed.pures (Continues locals))))))
+    stmt_layer (TypedStmt-F.SetAt field key e) locals = closed.binds (closed.pays STATEMENT) (λ _. closed.binds (value_alike locals key) (λ k. closed.binds (value_alike locals e) (λ v. closed.writes field k v (Continues locals))))
     stmt_layer (TypedStmt-F.If arms None) locals = closed.binds (closed.pays STATEMENT) (λ _. chosen_alike arms None None (λ after. closed.pures (Continues after)) locals)
     stmt_layer (TypedStmt-F.If arms (Some last)) locals = closed.binds (closed.pays STATEMENT) (λ _. chosen_alike arms (Some (block_of A f last.0)) (Some (block_of B g last.0)) last.1 locals)
     stmt_layer (TypedStmt-F.While cond body) locals = closed.binds (closed.pays STATEMENT) (λ _. closed.loops a b cond _ _ (λ after. value_alike after cond) body.1 locals)

@@ -1,8 +1,9 @@
 -- What the meaning of a transaction promises.
-use Rattle.std.specs.Prelude.{ℕ, ◌≡◌, ◌≢◌, ◌≤◌, ◌<◌, List, [], All, AllPairs, false, slice_get}
+use Rattle.std.specs.Prelude.{ℕ, ◌≡◌, ◌≢◌, ◌≤◌, ◌<◌, ◌*◌, List, length, [], All, AllPairs, false, slice_get}
 use Rattle.std.specs.List.{sum_by}
 use Rattle.std.specs.Option.{IsSomeAnd}
 use Rattle.std.specs.Map.{keys_of}
+use Rattle.ecf_lang.specs.declared.costs.TheConstants.{READ}
 use Rattle.ecf_lang.specs.declared.run.Step.{Step}
 use Rattle.ecf_lang.specs.declared.run.Invocation.{Invocation}
 use Rattle.ecf_lang.specs.declared.run.Outcome.TheVariants.{Answer, OutOfFuel}
@@ -46,6 +47,10 @@ FuelWithinLimit = (typed : Typed) (store : Store) (tx : Tx) → (run typed store
 -- a run that runs out of fuel used its whole limit
 abbrev pub OutOfFuelUsesAll : Type 0
 OutOfFuelUsesAll = (typed : Typed) (store : Store) (tx : Tx) → (run typed store tx).outcome ≡ OutOfFuel → (run typed store tx).fuel ≡ tx.fuel
+
+-- each step of a run was charged as a read at least
+abbrev pub StepsAreCharged : Type 0
+StepsAreCharged = (typed : Typed) (store : Store) (tx : Tx) → READ * length (run typed store tx).steps ≤ (run typed store tx).fuel
 
 -- fuel never rises along any part of a run
 abbrev pub FuelNeverRises : Type 0

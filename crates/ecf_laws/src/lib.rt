@@ -2,7 +2,7 @@
 //! does nothing.
 #![tactic(auto)]
 
-ghost use Rattle.ecf_laws.specs.Laws.{ChargedIsUsed, EndsWithWrites, FuelAddsUp, FuelNeverRises, FuelWithinLimit, MoreTurnsChangeNothing, OutOfFuelUsesAll, ReadsAreStored, ReadsDiffer, ReadsSeeWrites, RunKeepsStore, RunStands, RunsEndLoopsByFuel, SameReadsSameRun, UnansweredLeavesStore, UnansweredWritesNothing, UndoneStepsVanish, WritesAreOfSteps, WritesRise};
+ghost use Rattle.ecf_laws.specs.Laws.{ChargedIsUsed, EndsWithWrites, FuelAddsUp, FuelNeverRises, FuelWithinLimit, MoreTurnsChangeNothing, OutOfFuelUsesAll, ReadsAreStored, ReadsDiffer, ReadsSeeWrites, RunKeepsStore, RunStands, RunsEndLoopsByFuel, SameReadsSameRun, StepsAreCharged, UnansweredLeavesStore, UnansweredWritesNothing, UndoneStepsVanish, WritesAreOfSteps, WritesRise};
 
 /// A run that doesn't answer leaves the store.
 pub fn unanswered_leaves_store()
@@ -27,6 +27,11 @@ pub fn fuel_within_limit()
 /// A run that runs out of fuel used its whole limit.
 pub fn out_of_fuel_uses_all()
     ensures { OutOfFuelUsesAll }
+{}
+
+/// Each step of a run was charged as a read at least.
+pub fn steps_are_charged()
+    ensures { StepsAreCharged }
 {}
 
 /// Fuel never rises along any part of a run.

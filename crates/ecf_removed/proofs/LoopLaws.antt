@@ -2,12 +2,12 @@
 -- the run alone makes.
 use Rattle.std.proofs.Common.{◌≡◌, ℕ, zero, suc, ◌+◌, ◌<◌, ◌≤◌, Bool, true, false, List, [], ◌++◌, length, Some, refl, ap, ◌∙◌, arith}
 use Rattle.std.specs.Prelude.{nat_le}
-use Rattle.ecf_lang.specs.declared.costs.TheConstants.{TURN}
+use Rattle.ecf_lang.specs.declared.costs.TheConstants.{TURN, READ, WRITE}
 use Rattle.ecf_lang.specs.declared.run.Step.{Step}
 use Rattle.ecf_lang.specs.declared.typed.Typed.{Typed}
 use Rattle.ecf_lang.specs.declared.typed.TypedExpr.{TypedExpr}
 use Rattle.ecf_lang.specs.Store.{Store}
-use Rattle.ecf_lang.specs.Part.{State, Control, Done, Exit, Part, after, ◌>>=◌, ◌>>◌, pure, pay}
+use Rattle.ecf_lang.specs.Part.{State, Control, Done, Exit, Part, after, ◌>>=◌, ◌>>◌, pure, pay, read_cell, write_cell}
 use Rattle.ecf_lang.specs.Meaning.{Opens, Frame, Flow, Continues, Returns, Action, go_on, value_of, at_zero, turns}
 use Rattle.ecf_laws.specs.Parts.{end_state}
 use Rattle.ecf_removed.proofs.EchoLaws as echo
@@ -156,7 +156,10 @@ module _ (typed : Typed) (fields : Store) (recorded : List ℕ) (here i : ℕ) w
     reverts = λ cause s w e. echo.revert_goes typed fields recorded here i cause s;
     binds = λ {m = m} {n = n} {f = f} {g = g} h k s w e. echo.after_goes typed fields recorded here i s (m s) n f g w e (h s w e) k;
     pays = parts.pay_goes typed fields recorded here i;
-    reads = parts.read_goes typed fields recorded here i store;
-    writes = parts.write_goes typed fields recorded here i;
+    reads = λ field key s w e. echo.after_goes typed fields recorded here i s (pay i READ s) (pay 0 READ) (λ _. read_cell store i (record { object = here; field = field; key = key })) (λ _. read_cell fields 0 (record { object = here; field = field; key = key })) w e
+        (parts.pay_goes typed fields recorded here i READ s w e) (λ _. parts.read_goes typed fields recorded here i store field key);
+    writes = λ field key value x s w e. echo.after_goes typed fields recorded here i s (pay i WRITE s) (pay 0 WRITE) (λ _. write_cell i (record { object = here; field = field; key = key }) value >>= (λ _. pure x)) (λ _. write_cell 0 (record { object = here; field = field; key = key }) value >>= (λ _. pure x)) w e
+        (parts.pay_goes typed fields recorded here i WRITE s w e) (λ _ t v f. echo.after_goes typed fields recorded here i t (write_cell i (record { object = here; field = field; key = key }) value t) (write_cell 0 (record { object = here; field = field; key = key }) value) (λ _. pure x) (λ _. pure x) v f
+        (parts.write_goes typed fields recorded here i field key value t v f) (λ _ u g h. echo.pure_goes typed fields recorded here i x u));
     loops = λ p q cond d e conds bodies locals. loop_goes store p q cond d e conds bodies locals;
   }
