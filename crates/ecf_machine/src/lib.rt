@@ -106,6 +106,3 @@ pub fn run_one<'a, R: CellRead>(
     } = machine;
     state.into_lone(alloc, inv, outcome)
 }
-
-#[cfg(test)]
-mod tests;

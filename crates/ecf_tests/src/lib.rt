@@ -6,7 +6,13 @@
 #![tactic(auto)]
 
 #[cfg(test)]
+mod alone;
+#[cfg(test)]
+mod charges;
+#[cfg(test)]
 mod fits;
+#[cfg(test)]
+mod frames;
 #[cfg(test)]
 mod heaps;
 #[cfg(test)]
@@ -16,15 +22,21 @@ mod numerals;
 #[cfg(test)]
 mod overlays;
 #[cfg(test)]
+mod reports;
+#[cfg(test)]
 mod runs;
 #[cfg(test)]
 mod small;
+#[cfg(test)]
+mod stored;
 #[cfg(test)]
 mod texts;
 #[cfg(test)]
 mod tokens;
 #[cfg(test)]
 mod trees;
+#[cfg(test)]
+mod tries;
 #[cfg(test)]
 mod types;
 #[cfg(test)]

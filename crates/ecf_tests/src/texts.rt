@@ -3,9 +3,12 @@
 use ecf_grammar::Token;
 use ecf_lang::limits::MAX_CONTRACT_BYTES;
 use ecf_lang::tree::Tree;
+use ecf_lang::typed::Typed;
 use ecf_lexer::{LexFault, lex};
 use ecf_parser::{SyntaxFault, parse};
+use ecf_typing::check;
 use std::alloc::Global;
+use std::test::Fail;
 
 /// The tokens of a text, for which there is no memory where it is over its limit.
 pub(crate) fn lexed(alloc: Global, text: &[u8]) -> Result<Vec<Token>, LexFault> {
@@ -23,4 +26,10 @@ pub(crate) fn parsed(alloc: Global, text: &str) -> Result<Result<Tree, SyntaxFau
     }
     let tokens = lex(alloc, text)?;
     Ok(parse(alloc, text, tokens.as_slice()))
+}
+
+/// The numbered form of a text.
+pub(crate) fn typed(alloc: Global, text: &str) -> Result<Typed, Fail> {
+    let tree = parsed(alloc, text)??;
+    Ok(check(alloc, &tree)?)
 }
