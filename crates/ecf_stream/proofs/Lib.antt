@@ -4,6 +4,9 @@ pub mod CallLaws
 pub mod DigitLaws
 pub mod FeedLaws
 pub mod SayingLaws
+pub mod CauseLaws
 pub mod StateLaws
 pub mod ReadLaws
 pub mod GivenLaws
+pub mod CutLaws
+pub mod EndLaws

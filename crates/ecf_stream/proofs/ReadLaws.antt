@@ -15,10 +15,10 @@ use Rattle.ecf_stream.specs.declared.line_reader.Fed.TheVariants as fed
 use Rattle.ecf_stream.specs.declared.stream_reader.Stage.TheVariants as stage
 use Rattle.ecf_stream.specs.declared.stream_reader.Reach.TheVariants as reach
 use Rattle.ecf_stream.specs.LineState.{LineState, opened_by, opened, part_of, has_lf, limit_passed_with, state_by, answer_to, state_after, IsWithin}
-use Rattle.ecf_stream.specs.StreamState.{StreamState, IsSound, first_state, place_of, held_of, stop_at, stopped_at, state_fed, is_reading, IsFine, given_yet, only_stop, MayFollow, at_line, HasLine, HasStop}
+use Rattle.ecf_stream.specs.StreamState.{StreamState, IsSound, first_state, place_of, held_of, stop_at, stopped_at, state_fed, is_reading, IsFine, reach_of, IsUpToStop, given_yet, only_stop, MayFollow, at_line, HasLine, HasStop}
 use Rattle.ecf_stream.proofs.FeedLaws.{none_passed, more_answered, line_answered, long_answered, IsOther, other, bytes_answered, split_at_lf, whole_part, plain_part, only_bytes}
 use Rattle.ecf_stream.proofs.SayingLaws.{IsPlain, said_last, ended_passes, open_passes}
-use Rattle.ecf_stream.proofs.StateLaws.{state, answer_is, state_is, goes_on, opened_over}
+use Rattle.ecf_stream.proofs.StateLaws.{state, answer_is, state_is, goes_on, opened_over, opened_open}
 
 -- ---- the line at hand, once some of it came
 
@@ -169,6 +169,7 @@ came_line old s new left left' taken h w e f g sound =
       is = is;
       within = subst (λ (t : StreamState). IsWithin t.lines) is sound.within;
       bytes_are = sym h.held ∙ ap (λ r. (opened s.lines).line ++ r) t.1 ∙ sym (append_assoc (opened s.lines).line (part_of s.rest) (10 ∷ rest));
+      no_rest = λ no. let none : ⊥ = cc in absurd none;
     }
 
 pub came_last : (old s new : StreamState) (left left' : Option (List ℕ)) (h : HasMore old s left left') → IsSound s → s.lines.over ≡ None → s.rest ≡ [] → new ≡ record s { lines = opened s.lines } → HasLine old new (held_of old ++ h.piece) false
@@ -186,6 +187,7 @@ came_last old s new left left' h w e none g =
       is = is;
       within = subst (λ (t : StreamState). IsWithin t.lines) (sym g ∙ is) (opened_within s.lines w.within);
       bytes_are = sym h.held ∙ ap (λ r. line ++ r) none ∙ sym (append-nil (line ++ []));
+      no_rest = λ last. refl;
     }
   where
     opened_is : (b : Bool) → s.lines.is_whole ≡ b → opened_by b s.lines ≡ grown (opened_by b s.lines) [] false
@@ -232,10 +234,32 @@ stops_before typed old s piece more failed h p q =
     ∙ ap (λ at. said_from typed old.controls at (lines_of (held_of s ++ more)) failed) (sym p)
     ∙ ap (λ controls. said_from typed controls (place_of s) (lines_of (held_of s ++ more)) failed) (sym q)
 
+-- a line that isn't whole is the one at hand
+open_stays : (l : LineState) → l.is_whole ≡ false → opened l ≡ l
+open_stays l e = ap (λ b. opened_by b l) e
+
+-- what a stop at the line at hand leaves
+record StopLeaves (old new : StreamState) (w : List ℕ) : Type 0 where
+  pub kept : w ≡ held_of new
+  pub lines : (place_of new).lines ≡ (place_of old).lines
+  pub up_to_stop : IsUpToStop new.stage (place_of new).lines
+
+stop_leaves : (old s new : StreamState) (l : LineState) (cause : StopCause) (w : List ℕ) → new ≡ stopped_at (record s { lines = l }) l cause → l.is_whole ≡ false → l.line ≡ (opened s.lines).line → l.lines ≡ (opened s.lines).lines → w ≡ held_of s → place_of s ≡ place_of old → StopLeaves old new w
+stop_leaves old s new l cause w g is_open line number held place =
+    let stays : opened l ≡ l = open_stays l is_open in
+    let same : (opened l).lines ≡ l.lines = ap (λ (m : LineState). m.lines) stays in
+    record {
+      kept = held ∙ sym (ap held_of g ∙ ap (λ (m : LineState). m.line ++ s.rest) stays ∙ ap (λ bytes. bytes ++ s.rest) line);
+      lines = ap (λ (t : StreamState). (place_of t).lines) g ∙ same ∙ number ∙ ap (λ (p : Place). p.lines) place;
+      up_to_stop = subst (λ (t : StreamState). IsUpToStop t.stage (place_of t).lines) (sym g) (omega (arith, same));
+    }
+
 pub came_long : (old s new : StreamState) (left left' : Option (List ℕ)) (taken : ℕ) (h : HasMore old s left left') → IsSound s → s.lines.over ≡ None → answer_to s.lines s.rest ≡ fed.Long taken → new ≡ state_fed s (fed.Long taken) → HasStop reach.Open old new (held_of old ++ h.piece)
 came_long old s new left left' taken h w e f g =
     let limit = long_answered (opened s.lines) s.rest (limit_passed_with (opened s.lines) s.rest) taken (sym (answer_is s.lines s.rest e) ∙ f) in
-    let lines : (state_after s.lines s.rest).lines ≡ (opened s.lines).lines = ap (λ (l : LineState). l.lines) (state_is s.lines s.rest e ∙ ap (state_by (opened s.lines) s.rest) limit) in
+    let after : state_after s.lines s.rest ≡ state_by (opened s.lines) s.rest (Some Long) = state_is s.lines s.rest e ∙ ap (state_by (opened s.lines) s.rest) limit in
+    let lines : (state_after s.lines s.rest).lines ≡ (opened s.lines).lines = ap (λ (l : LineState). l.lines) after in
+    let leaves = stop_leaves old s new (state_after s.lines s.rest) Long (held_of old ++ h.piece) g (ap (λ (l : LineState). l.is_whole) after ∙ opened_open s.lines.is_whole s.lines refl) (ap (λ (l : LineState). l.line) after) lines (sym h.held) h.place in
     record {
       stops = λ typed more failed follow.
           stops_before typed old s h.piece more failed h.held h.place h.controls
@@ -245,12 +269,19 @@ came_long old s new left left' taken h w e f g =
       ended = ap (λ (t : StreamState). is_reading t.stage) g;
       fine = subst (λ (t : StreamState). IsFine t.stage) (sym g) tt;
       txs = ap (λ (t : StreamState). t.txs) g ∙ h.txs;
+      controls = ap (λ (t : StreamState). t.controls) g ∙ h.controls;
+      reached = sym (ap reach_of g);
+      kept = leaves.kept;
+      lines = leaves.lines;
+      up_to_stop = leaves.up_to_stop;
     }
 
 pub came_bytes : (old s new : StreamState) (left left' : Option (List ℕ)) (taken : ℕ) (h : HasMore old s left left') → IsSound s → s.lines.over ≡ None → answer_to s.lines s.rest ≡ fed.Bytes taken → new ≡ state_fed s (fed.Bytes taken) → HasStop reach.Open old new (held_of old ++ h.piece)
 came_bytes old s new left left' taken h w e f g =
     let limit : limit_passed_with (opened s.lines) s.rest ≡ Some Bytes = only_bytes (opened s.lines).most_line (opened s.lines).most_bytes (opened s.lines).bytes (has_lf s.rest) ((opened s.lines).line ++ part_of s.rest) (bytes_answered (opened s.lines) s.rest (limit_passed_with (opened s.lines) s.rest) taken (sym (answer_is s.lines s.rest e) ∙ f)) in
-    let lines : (state_after s.lines s.rest).lines ≡ (opened s.lines).lines = ap (λ (l : LineState). l.lines) (state_is s.lines s.rest e ∙ ap (state_by (opened s.lines) s.rest) limit) in
+    let after : state_after s.lines s.rest ≡ state_by (opened s.lines) s.rest (Some Bytes) = state_is s.lines s.rest e ∙ ap (state_by (opened s.lines) s.rest) limit in
+    let lines : (state_after s.lines s.rest).lines ≡ (opened s.lines).lines = ap (λ (l : LineState). l.lines) after in
+    let leaves = stop_leaves old s new (state_after s.lines s.rest) Bytes (held_of old ++ h.piece) g (ap (λ (l : LineState). l.is_whole) after ∙ opened_open s.lines.is_whole s.lines refl) (ap (λ (l : LineState). l.line) after) lines (sym h.held) h.place in
     record {
       stops = λ typed more failed follow.
           stops_before typed old s h.piece more failed h.held h.place h.controls
@@ -260,6 +291,11 @@ came_bytes old s new left left' taken h w e f g =
       ended = ap (λ (t : StreamState). is_reading t.stage) g;
       fine = subst (λ (t : StreamState). IsFine t.stage) (sym g) tt;
       txs = ap (λ (t : StreamState). t.txs) g ∙ h.txs;
+      controls = ap (λ (t : StreamState). t.controls) g ∙ h.controls;
+      reached = sym (ap reach_of g);
+      kept = leaves.kept;
+      lines = leaves.lines;
+      up_to_stop = leaves.up_to_stop;
     }
 
 -- a read failed behind what was held
@@ -267,6 +303,7 @@ pub came_fault : (old s new : StreamState) (left left' : Option (List ℕ)) (h :
 came_fault old s new left left' h w e none g =
     let line = came_last old s (record s { lines = opened s.lines }) left left' h w e none refl in
     let limit = none_passed (at_line old line.line line.rest false).lines line.within in
+    let leaves = stop_leaves old s new (opened s.lines) Read (held_of old ++ h.piece) g (opened_open s.lines.is_whole s.lines refl) refl refl (sym h.held) h.place in
     record {
       stops = λ typed more failed follow.
           ap (λ m. said_from typed old.controls (place_of old) (lines_of ((held_of old ++ h.piece) ++ m)) failed) follow.0
@@ -279,6 +316,11 @@ came_fault old s new left left' h w e none g =
       ended = ap (λ (t : StreamState). is_reading t.stage) g;
       fine = subst (λ (t : StreamState). IsFine t.stage) (sym g) tt;
       txs = ap (λ (t : StreamState). t.txs) g ∙ h.txs;
+      controls = ap (λ (t : StreamState). t.controls) g ∙ h.controls;
+      reached = sym (ap reach_of g);
+      kept = leaves.kept;
+      lines = leaves.lines;
+      up_to_stop = leaves.up_to_stop;
     }
 
 -- whichever limit was passed

@@ -29,7 +29,7 @@ some_line [] h = let no : ⊥ = omega (arith, h) in absurd no
 some_line (x ∷ xs) h = (x, xs, refl)
 
 -- a stream has a line, if only an empty one
-lines_some : (bytes : List ℕ) → (first : List ℕ) × (others : List (List ℕ)) × (lines_of bytes ≡ first ∷ others)
+pub lines_some : (bytes : List ℕ) → (first : List ℕ) × (others : List (List ℕ)) × (lines_of bytes ≡ first ∷ others)
 lines_some bytes = let count = length-slice_split is_lf bytes in some_line (lines_of bytes) (omega (arith, count))
 
 -- the first line, ended by an LF

@@ -4,6 +4,8 @@ pub mod OneLine
 pub mod Calls
 pub mod LineState
 pub mod LineReader
+pub mod Cuts
 pub mod Saying
 pub mod StreamState
+pub mod Laws
 pub mod StreamReader

@@ -5,13 +5,14 @@ use Rattle.ecf_edge.specs.Source.{Gave, IsAtEnd}
 use Rattle.ecf_lang.specs.declared.limits.TheConstants.{MAX_LINE_BYTES, MAX_STREAM_BYTES, MAX_TRANSACTIONS}
 use Rattle.ecf_lang.specs.declared.receipt.Stop.{Stop}
 use Rattle.ecf_lang.specs.declared.receipt.StopCause.{StopCause}
-use Rattle.ecf_lang.specs.declared.receipt.StopCause.TheVariants.{Long, Bytes}
+use Rattle.ecf_lang.specs.declared.receipt.StopCause.TheVariants.{Long, Bytes, Read}
 use Rattle.ecf_lang.specs.declared.tx.Tx.{Tx}
 use Rattle.ecf_lang.specs.declared.typed.Typed.{Typed}
+use Rattle.std.specs.List.{flat_map}
 use Rattle.std.specs.Str.Lines.{strip_carriage_return}
 use Rattle.ecf_lines.specs.declared.saying.Saying.{Saying}
-use Rattle.ecf_lines.specs.declared.saying.Saying.TheVariants.{Nothing}
-use Rattle.ecf_lines.specs.Line.{Reading}
+use Rattle.ecf_lines.specs.declared.saying.Saying.TheVariants.{Nothing, TakesOut}
+use Rattle.ecf_lines.specs.Line.{Reading, is_skipped}
 use Rattle.ecf_lines.specs.Stream.{Place, Off, StreamSaid, nothing_said, lines_of, txs_with, saying_of, said_from}
 use Rattle.ecf_stream.specs.declared.stream_reader.Stage.{Stage}
 use Rattle.ecf_stream.specs.declared.stream_reader.Stage.TheVariants as stage
@@ -124,6 +125,23 @@ abbrev pub rest_at : Reach → List ℕ → Type 0
 rest_at reach.Open rest = 0 < length rest
 rest_at other rest = rest ≡ []
 
+-- how far the source was read where this cause stopped the reading, at a line that an LF ended or not
+abbrev pub reach_by : StopCause → Bool → Reach
+reach_by Read is_whole = reach.Failed
+reach_by Long is_whole = reach.Open
+reach_by Bytes is_whole = reach.Open
+reach_by other is_whole = if is_whole then reach.Open else reach.AtEnd
+
+-- how far the source was read at a stage, where the line at hand is whole or not
+abbrev pub reach_at : Stage → Bool → Reach
+reach_at (stage.Ended None) is_whole = reach.AtEnd
+reach_at (stage.Ended (Some stop)) is_whole = reach_by stop.cause is_whole
+reach_at other is_whole = reach.Open
+
+-- how far a reader has read its source
+abbrev pub reach_of : StreamState → Reach
+reach_of s = reach_at s.stage s.lines.is_whole
+
 -- how many reads have failed then
 abbrev pub faults_at : Reach → ℕ → ℕ
 faults_at reach.Open faults = faults
@@ -135,15 +153,42 @@ abbrev pub left_at : Reach → Option (List ℕ) → Type 0
 left_at reach.AtEnd left = IsAtEnd left
 left_at other left = Unit {0}
 
--- A call read a piece and came so far. What it gave and what the reader gives from then on is what it was to give, whatever comes of
--- the stream behind the piece.
-pub record Reads (typed : Typed) (old new : StreamState) (left left' : Option (List ℕ)) (faults faults' : ℕ) (gives : StreamSaid → StreamSaid) : Type 0 where
+-- lines, each with the LF that ended it
+abbrev pub whole_lines : List (List ℕ) → List ℕ
+whole_lines lines = flat_map (λ line. line ++ 10 ∷ []) lines
+
+-- the last of the lines isn't skipped: it says a transaction, a control line or a stop
+pub record EndsUnskipped (lines : List (List ℕ)) : Type 0 where
+  pub front : List (List ℕ)
+  pub line : List ℕ
+  pub are : lines ≡ front ++ line ∷ []
+  pub unskipped : is_skipped (strip_carriage_return line) ≡ false
+
+-- so many lines were read, and none behind that of a stop
+abbrev pub IsUpToStop : Stage → ℕ → Type 0
+IsUpToStop (stage.Ended (Some stop)) lines = lines ≤ stop.line
+IsUpToStop other lines = Unit {0}
+
+-- Whole lines were dealt with: all that was held or came, but for what is held now. Where reading goes on, they give what the call gave.
+pub record Deals (typed : Typed) (old new : StreamState) (piece : List ℕ) (gives : StreamSaid → StreamSaid) (lines : List (List ℕ)) : Type 0 where
+  pub kept : held_of old ++ piece ≡ whole_lines lines ++ held_of new
+  pub count : (place_of new).lines ≡ (place_of old).lines + length lines
+  pub up_to_stop : old.stage ≡ stage.Reading → IsUpToStop new.stage (place_of new).lines
+  pub say : new.stage ≡ stage.Reading → (more : List ℕ) (failed : Bool) →
+      said_from typed old.controls (place_of old) (lines_of (whole_lines lines ++ more)) failed ≡ gives (said_from typed new.controls (place_of new) (lines_of more) failed)
+
+-- A call read a piece, came so far, and dealt with lines; where it is settled that one that isn't skipped came last, it did. What the
+-- call gave and what the reader gives from then on is what it was to give, whatever comes of the stream behind the piece.
+pub record Reads (typed : Typed) (old new : StreamState) (left left' : Option (List ℕ)) (faults faults' : ℕ) (gives : StreamSaid → StreamSaid) (settled : Bool) : Type 0 where
   pub piece : List ℕ
   pub far : Reach
+  pub lines : List (List ℕ)
   pub gave : Gave left piece left'
   pub end : left_at far left'
   pub counted : faults' ≡ faults_at far faults
-  pub going : new.stage ≡ stage.Reading → far ≡ reach.Open
+  pub reached : old.stage ≡ stage.Reading → far ≡ reach_of new
+  pub deals : Deals typed old new piece gives lines
+  pub last : settled ≡ true → new.stage ≡ stage.Reading → EndsUnskipped lines
   pub said : (more : List ℕ) (failed : Bool) → MayFollow far more failed → given_yet typed old (piece ++ more) failed ≡ gives (given_yet typed new more failed)
 
 -- these transactions, and then the rest
@@ -158,6 +203,7 @@ with_part txs before (Some watch) rest = with_txs txs (record { txs = rest.txs; 
 -- what a part says of itself, of which so many transactions were asked and so many came
 pub record IsPart (most count : ℕ) (ended : Bool) (stop : Option Stop) (off : Option ℕ) (at : Stage) : Type 0 where
   pub few : count ≤ most
+  pub fine : IsFine at
   pub at_end : ended ≡ true → at ≡ stage.Ended stop
   pub no_off : ended ≡ true → off ≡ None
   pub no_stop : ended ≡ false → stop ≡ None
@@ -188,6 +234,7 @@ pub record HasLine (old new : StreamState) (w : List ℕ) (is_whole : Bool) : Ty
   pub is : new ≡ at_line old line rest is_whole
   pub within : IsWithin (at_line old line rest is_whole).lines
   pub bytes_are : w ≡ line ++ (if is_whole then 10 ∷ rest else [])
+  pub no_rest : is_whole ≡ false → rest ≡ []
 
 -- reading stopped: whatever comes of the stream, the stop is what was to be given
 pub record HasStop (far : Reach) (old new : StreamState) (w : List ℕ) : Type 0 where
@@ -196,6 +243,11 @@ pub record HasStop (far : Reach) (old new : StreamState) (w : List ℕ) : Type 0
   pub ended : is_reading new.stage ≡ false
   pub fine : IsFine new.stage
   pub txs : new.txs ≡ old.txs
+  pub controls : new.controls ≡ old.controls
+  pub reached : far ≡ reach_of new
+  pub kept : w ≡ held_of new
+  pub lines : (place_of new).lines ≡ (place_of old).lines
+  pub up_to_stop : IsUpToStop new.stage (place_of new).lines
 
 -- the next line, the last one or a stop
 abbrev pub Comes : Next → Reach → StreamState → StreamState → List ℕ → Type 0
@@ -220,6 +272,16 @@ HasSaidBy (Err cause) old new is_last saying = (saying ≡ Nothing) × (new ≡ 
 -- the same by the line
 abbrev pub HasSaid : Typed → StreamState → StreamState → Bool → Saying → Type 0
 HasSaid typed old new is_last saying = HasSaidBy (saying_of typed old.controls old.txs (strip_carriage_return old.lines.line)) old new is_last saying
+
+-- the line says something
+abbrev pub is_said : Saying → Bool
+is_said Nothing = false
+is_said other = true
+
+-- the line is a control line
+abbrev pub takes_out : Saying → Bool
+takes_out (TakesOut watch) = true
+takes_out other = false
 
 -- a line that says something came without a failed read
 abbrev pub NoFault : Saying → ℕ → ℕ → Type 0

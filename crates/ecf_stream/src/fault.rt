@@ -11,7 +11,8 @@ use thiserror::Error;
 /// Why a line is no transaction, the first of its faults in this order; or want of memory.
 #[derive(Clone, Copy, Debug, PartialEq, Eq, Error)]
 pub enum StreamFault {
-    /// Fewer than four words, an empty word, or a submitter that isn't a number from 0 to 4,294,967,295.
+    /// A first call of fewer than four words, a further call of fewer than two, more than eight calls, an empty word, or a
+    /// submitter that isn't a number from 0 to 4,294,967,295.
     #[error("the line has no form of a transaction")]
     Form,
     /// No object of that name.

@@ -1,6 +1,6 @@
 //! Reads a stream as transactions, so many at a time.
 
-ghost use Rattle.std.specs.Prelude.{◌≡◌, ℕ, ◌+◌, ◌<◌, ◌≤◌, List, [], ◌++◌, true, false, nat_lt, not, length, map, Some, None, IsSome, IfOk, OnOk, OnErr, IsErr, All};
+ghost use Rattle.std.specs.Prelude.{◌≡◌, ℕ, ◌+◌, ◌<◌, ◌≤◌, List, [], ◌++◌, true, false, nat_lt, not, length, map, Some, None, IsSome, IfOk, OnOk, OnErr, IsOk, IsErr, All};
 ghost use Rattle.std.specs.Arc.{arc_value};
 ghost use Rattle.ecf_edge.specs.Source.{Gave, GaveSome, IsAtEnd, faults_after_read};
 ghost use Rattle.ecf_lang.specs.Fits.{Fits};
@@ -9,7 +9,7 @@ ghost use Rattle.ecf_lines.specs.Stream.{said_first, txs_with};
 ghost use Rattle.ecf_stream.specs.Lookup.{Finds};
 ghost use Rattle.ecf_stream.specs.LineState.{opened, answer_to};
 ghost use Rattle.ecf_stream.specs.Saying.{SayingFits};
-ghost use Rattle.ecf_stream.specs.StreamState.{first_state, held_of, stop_at, state_behind, state_fed, stopped_at, is_reading, lines_to_come, rest_at, left_at, faults_at, Reads, with_part, HasNext, HasSaid, NoFault, IsPart, IsEnded, IsFine, IsSound};
+ghost use Rattle.ecf_stream.specs.StreamState.{first_state, held_of, stop_at, state_behind, state_fed, stopped_at, is_reading, lines_to_come, rest_at, reach_of, left_at, faults_at, Reads, with_part, HasNext, HasSaid, is_said, takes_out, NoFault, IsPart, IsEnded, IsFine, IsSound};
 
 use crate::line_reader::{Fed, LineReader};
 use crate::lookup::Lookup;
@@ -129,14 +129,21 @@ impl StreamReader {
         // Whatever comes of the stream behind what was read, what the part has and what later parts are to give is what was to be given.
         ensures reads { IfOk result (λ part.
             Reads typed.now self.old self.new (S.left source.old) (S.left source.new) (S.faults source.old) (S.faults source.new)
-            (with_part (map arc_value part.txs.items) self.old.txs part.off)) }
+            (with_part (map arc_value part.txs.items) self.old.txs part.off) (not part.ended)) }
         ensures part { IfOk result (λ part. IsPart most (length part.txs.items) part.ended part.stop part.off self.new.stage) }
         ensures fits { IfOk result (λ part. All (Fits typed.now) (map arc_value part.txs.items)) }
+        ensures controls { OnOk result (self.new.controls ≡ self.old.controls) }
+        ensures no_off { self.old.controls ≡ false → IfOk result (λ part. part.off ≡ None) }
 
-        // What was read and not looked at is at most what one read gives, and a line.
+        // What was read and not dealt with is at most what one read gives, and a line.
         ensures little { length (held_of self.new) ≤ READ_BYTES + MAX_LINE_BYTES }
 
-        ensures over { IsEnded self.old.stage → OnOk result ((self.new ≡ self.old) × (source.new ≡ source.old)) }
+        // The source was read to its end where there is no stop, and to a failed read exactly where the stop is `read`.
+        ensures end { self.old.stage ≡ Stage.Reading → OnOk result (left_at (reach_of self.new) (S.left source.new)) }
+        ensures counted { self.old.stage ≡ Stage.Reading → OnOk result (S.faults source.new ≡ faults_at (reach_of self.new) (S.faults source.old)) }
+
+        ensures over { IsEnded self.old.stage → IsOk result × (self.new ≡ self.old) × (source.new ≡ source.old) }
+        ensures none_more { IsEnded self.old.stage → IfOk result (λ part. (part.txs.items ≡ []) × (part.ended ≡ true)) }
         ensures lost { OnErr result (self.new.stage ≡ Stage.OutOfMemory) }
         ensures lost_bytes { OnErr result (GaveSome (S.left source.old) (S.left source.new)) }
         ensures lost_no_fault { OnErr result (S.faults source.new ≡ S.faults source.old) }
@@ -197,9 +204,13 @@ impl StreamReader {
         requires reading { self.old.stage ≡ Stage.Reading }
         ensures reads { IfOk result (λ part.
             Reads typed.now self.old self.new (S.left source.old) (S.left source.new) (S.faults source.old) (S.faults source.new)
-            (with_part (map arc_value part.txs.items) self.old.txs part.off)) }
+            (with_part (map arc_value part.txs.items) self.old.txs part.off) (not part.ended)) }
         ensures part { IfOk result (λ part. IsPart most (length part.txs.items) part.ended part.stop part.off self.new.stage) }
         ensures fits { IfOk result (λ part. All (Fits typed.now) (map arc_value part.txs.items)) }
+        ensures controls { OnOk result (self.new.controls ≡ self.old.controls) }
+        ensures no_off { self.old.controls ≡ false → IfOk result (λ part. part.off ≡ None) }
+        ensures end { OnOk result (left_at (reach_of self.new) (S.left source.new)) }
+        ensures counted { OnOk result (S.faults source.new ≡ faults_at (reach_of self.new) (S.faults source.old)) }
         ensures lost_bytes { OnErr result (GaveSome (S.left source.old) (S.left source.new)) }
         ensures lost_no_fault { OnErr result (S.faults source.new ≡ S.faults source.old) }
     {
@@ -255,9 +266,11 @@ impl StreamReader {
         requires reading { self.old.stage ≡ Stage.Reading }
         ensures reads { IfOk result (λ saying.
             Reads typed.now self.old self.new (S.left source.old) (S.left source.new) (S.faults source.old) (S.faults source.new)
-            (said_first saying self.old.txs)) }
+            (said_first saying self.old.txs) (is_said saying)) }
         ensures counts { IfOk result (λ saying. self.new.txs ≡ txs_with saying self.old.txs) }
         ensures no_fault { IfOk result (λ saying. NoFault saying (S.faults source.old) (S.faults source.new)) }
+        ensures controls { OnOk result (self.new.controls ≡ self.old.controls) }
+        ensures no_control { self.old.controls ≡ false → IfOk result (λ saying. takes_out saying ≡ false) }
         ensures fine { OnOk result (IsFine self.new.stage) }
         ensures progress { OnOk result (lines_to_come self.new < lines_to_come self.old) }
         ensures fits { IfOk result (SayingFits typed.now) }
