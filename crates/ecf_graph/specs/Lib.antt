@@ -1,4 +1,5 @@
 pub mod Checks
+pub mod Edges
 pub mod Ordered
 pub mod PathLemmas
 pub mod Paths

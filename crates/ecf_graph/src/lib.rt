@@ -6,8 +6,6 @@ mod edges;
 mod placement;
 mod row;
 mod rows;
-#[cfg(test)]
-mod tests;
 
 pub use checks::{check_cycle, check_order};
 pub use edges::{Edges, least_order};
