@@ -1,3 +1,4 @@
+pub mod JoinLaws
 pub mod LeastLaws
 pub mod NumberLaws
 pub mod PairLaws

@@ -10,6 +10,7 @@ use crate::members::members_of;
 use crate::seen::rows_before;
 use ecf_graph::{Edges, Row, row_contains};
 use ecf_lang::run::Step;
+use ecf_verdicts::members_are;
 use std::alloc::{AllocError, Global};
 
 /// Whether i and j differ and i is in the row of j.
@@ -51,13 +52,25 @@ fn pairs_in(alloc: Global, rows: &[Row], members: &[u16]) -> Result<Vec<(u16, u1
     Ok(pairs)
 }
 
+/// The pairs of some invocations that "before" has, by their firsts.
+fn pairs_before(
+    alloc: Global,
+    steps: &[Step],
+    members: &[u16],
+) -> Result<Vec<(u16, u16)>, AllocError>
+    ensures { IfOk result (λ v. v.items ≡ pairs_of (before steps.now) members.now) }
+{
+    let rows = rows_before(alloc, steps)?;
+    pairs_in(alloc, rows.as_slice(), members)
+}
+
 /// The invocations of a trace and exactly the pairs of them that "before" has.
 pub fn edges_of(alloc: Global, steps: &[Step]) -> Result<Edges, AllocError>
     ensures members { IfOk result (λ e. e.members.items ≡ members steps.now) }
     ensures pairs { IfOk result (λ e. e.pairs.items ≡ pairs_of (before steps.now) (members steps.now)) }
 {
+    members_are();
     let members = members_of(alloc, steps)?;
-    let rows = rows_before(alloc, steps)?;
-    let pairs = pairs_in(alloc, rows.as_slice(), members.as_slice())?;
+    let pairs = pairs_before(alloc, steps, members.as_slice())?;
     Ok(Edges { members, pairs })
 }

@@ -2,7 +2,8 @@
 
 ghost use Rattle.std.specs.Prelude.{◌≡◌, ◌==◌, ◌&&◌, ◌<◌, ◌≤◌, ◌+◌, drop, length, slice_index_or};
 ghost use Rattle.std.specs.List.{list_any};
-ghost use Rattle.ecf_conflict.specs.Least.{begins};
+ghost use Rattle.std.specs.List.Sorted.{IsStrictlyIncreasing};
+ghost use Rattle.ecf_conflict.specs.Least.{TellsLeast, begins, is_below};
 ghost use Rattle.ecf_lang.specs.declared.run.Step.{Step};
 ghost use Rattle.ecf_verdicts.specs.Before.{before};
 ghost use Rattle.ecf_verdicts.specs.Conflicts.{conflicts, same_cell};
@@ -60,15 +61,26 @@ fn is_before(steps: &[Step], i: u16, j: u16) -> bool
     false
 }
 
-/// The first of the rest that is before an invocation; the least, where the rest rises. It takes no memory and compares
-/// steps with steps.
-pub fn least_before(steps: &[Step], rest: &[u16], inv: u16) -> Option<u16>
-    ensures { result ≡ least_before steps.now rest.now inv }
+/// Whether i is below the least so far, and before j.
+fn is_lower(steps: &[Step], least: Option<u16>, i: u16, j: u16) -> bool
+    ensures { result ≡ (is_below least i && before steps.now i j) }
 {
+    match least {
+        None => is_before(steps, i, j),
+        Some(k) => i < k && is_before(steps, i, j),
+    }
+}
+
+/// The least of a list that is before an invocation. It takes no memory: it compares steps with steps.
+pub fn least_before(steps: &[Step], rest: &[u16], inv: u16) -> Option<u16>
+    ensures least { TellsLeast (λ i. before steps.now i inv) rest.now result }
+    ensures named { IsStrictlyIncreasing rest.now → result ≡ least_before steps.now rest.now inv }
+{
+    let mut least = None;
     for i in rest {
-        if is_before(steps, *i, inv) {
-            return Some(*i);
+        if is_lower(steps, least, *i, inv) {
+            least = Some(*i);
         }
     }
-    None
+    least
 }

@@ -1,16 +1,24 @@
-use Rattle.std.proofs.Common.{◌≡◌, ◌==◌, ◌&&◌, not, ℕ, Bool, List, refl, ap, ◌∙◌}
+use Rattle.std.proofs.Common.{◌≡◌, ap, ◌∙◌}
+use Rattle.std.specs.List.Sorted.{IsStrictlyIncreasing}
 use Rattle.ecf_verdicts.specs.Before.{before}
+use Rattle.ecf_verdicts.specs.RisingLemmas.{rising_from}
 use Rattle.ecf_conflict.specs.Pairs.{pairs_of}
-use Rattle.ecf_graph.specs.Rows.{is_in_row}
-use Rattle.ecf_conflict.proofs.PairLaws.{of_same, apart_before}
+use Rattle.ecf_conflict.proofs.JoinLaws.{pairs_rise, pairs_are_of_two}
 use Rattle.ecf_conflict.proofs.edges.edges_of.Goals as goal
 
-abbrev apart : List (List ℕ) → ℕ → ℕ → Bool
-apart rows a b = not (a == b) && is_in_row rows b a
+pub invariant_of-result : goal.invariant_of-result
+invariant_of-result c =
+    let t = c.args.steps.now in
+    let list = c.in_ok-members.members.items in
+    let pairs : c.in_ok-pairs.pairs.items ≡ pairs_of (before t) list = c.in_ok-pairs.ensures ∙ ap (pairs_of (before t)) c.as_slice.ensures.value in
+    let rises : IsStrictlyIncreasing list = rw c.in_ok-members.ensures (c.members_are.ensures t).0 in
+    record {
+      members_rise = rises;
+      pairs_rise = rw pairs (pairs_rise (before t) list (rising_from list rises));
+      of_two = rw pairs (pairs_are_of_two t list);
+    }
 
 pub returns-clause-pairs : goal.returns-clause-pairs
 returns-clause-pairs c =
-    let list = c.in_ok-members.members.items in
-    let rows = c.in_ok-rows.rows.items in
-    let a : pairs_of (apart c.as_slice.result.now) c.as_slice-2.result.now ≡ pairs_of (apart rows) list = rw (c.as_slice.ensures.value, c.as_slice-2.ensures.value) refl in
-    c.in_ok-pairs.ensures ∙ (a ∙ (of_same (apart rows) (before c.args.steps.now) list (apart_before c.args.steps.now (is_in_row rows) (λ i j n. c.in_ok-rows.ensures i j)) ∙ ap (λ l. pairs_of (before c.args.steps.now) l) c.in_ok-members.ensures))
+    let t = c.args.steps.now in
+    c.in_ok-pairs.ensures ∙ ap (pairs_of (before t)) (c.as_slice.ensures.value ∙ c.in_ok-members.ensures)
