@@ -79,6 +79,3 @@ pub fn print_journal(
     write_tail(&mut text, typed, stop, cells)?;
     Ok(text)
 }
-
-#[cfg(test)]
-mod tests;

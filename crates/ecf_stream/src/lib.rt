@@ -17,6 +17,3 @@ pub use line_reader::{Fed, LineReader};
 pub use lookup::Lookup;
 pub use one_line::read_one;
 pub use stream_reader::{Part, READ_BYTES, StreamReader};
-
-#[cfg(test)]
-mod tests;

@@ -10,6 +10,8 @@ mod alone;
 #[cfg(test)]
 mod charges;
 #[cfg(test)]
+mod cut_source;
+#[cfg(test)]
 mod fits;
 #[cfg(test)]
 mod frames;
@@ -18,9 +20,15 @@ mod heaps;
 #[cfg(test)]
 mod initial;
 #[cfg(test)]
+mod journals;
+#[cfg(test)]
+mod lines;
+#[cfg(test)]
 mod numerals;
 #[cfg(test)]
 mod overlays;
+#[cfg(test)]
+mod pieces;
 #[cfg(test)]
 mod reports;
 #[cfg(test)]
@@ -29,6 +37,10 @@ mod runs;
 mod small;
 #[cfg(test)]
 mod stored;
+#[cfg(test)]
+mod stream_contract;
+#[cfg(test)]
+mod streams;
 #[cfg(test)]
 mod texts;
 #[cfg(test)]

@@ -1,6 +1,5 @@
 //! Whole journals, written by hand, against what is printed.
 
-use crate::{print_entries, print_journal, print_tail};
 use ecf_lang::cell::Cell;
 use ecf_lang::name::Name;
 use ecf_lang::receipt::{Entry, Order, Receipt, Stop, StopCause};
@@ -8,9 +7,9 @@ use ecf_lang::run::Cause;
 use ecf_lang::tree::Ty;
 use ecf_lang::tx::{Tx, TxCall, TxRef};
 use ecf_lang::typed::{FieldKind, Signature, Typed, TypedField, TypedObject};
+use ecf_receipts::{print_entries, print_head, print_journal, print_tail};
 use sqlite_items::Items;
 use std::alloc::{AllocError, Global};
-use std::process::Abort;
 use std::sync::Arc;
 use std::test::Fail;
 
@@ -430,39 +429,61 @@ const STOPS: [(u32, StopCause, &str); 10] = [
     (3, StopCause::Read, "stop 3 read\nend\n"),
 ];
 
-fn check_entries(
-    rt: &impl Abort,
+/// The lines of the entries of a case from a place on.
+fn lines_from(alloc: Global, case: &Case<'_>, from: usize) -> Result<Vec<u8>, AllocError> {
+    let typed = contract(alloc)?;
+    let txs = transactions(alloc, case.requests)?;
+    let entries = entries(alloc, case.ends)?;
+    print_entries(alloc, &typed, &txs, &entries, from)
+}
+
+fn tail_of(
     alloc: Global,
-    typed: &Typed,
-    txs: &[TxRef],
-    entries: &[Entry],
-    case: &Case<'_>,
-) -> Result<(), AllocError> {
-    for from in 0..=case.lines.len() {
-        let text = print_entries(alloc, typed, txs, entries, from)?;
-        let want = case.lines[from..].concat(alloc)?;
-        assert!(rt; text.as_slice() == want.as_bytes(), "from {from}: {want}");
-    }
-    for from in [entries.len(), entries.len() + 1, usize::MAX] {
-        let text = print_entries(alloc, typed, txs, entries, from)?;
-        assert!(rt; text.is_empty(), "from {from}");
+    stop: Option<Stop>,
+    cells: &[(Cell, u128)],
+) -> Result<Vec<u8>, AllocError> {
+    print_tail(alloc, &contract(alloc)?, stop, cells)
+}
+
+/// The whole journal of a case.
+fn journal_of(alloc: Global, case: &Case<'_>) -> Result<Vec<u8>, AllocError> {
+    let typed = contract(alloc)?;
+    let txs = transactions(alloc, case.requests)?;
+    let entries = entries(alloc, case.ends)?;
+    print_journal(alloc, &typed, &txs, &entries, case.stop, case.cells)
+}
+
+fn head(alloc: Global) -> Result<Vec<u8>, AllocError> {
+    print_head(alloc)
+}
+
+#[test]
+fn entries_are_printed_from_any_place(rt: HostRuntime) -> Result<(), Fail> {
+    let alloc = rt.alloc();
+    for case in &CASES {
+        for from in 0..=case.lines.len() {
+            let text = lines_from(alloc, case, from)?;
+            let want = case.lines[from..].concat(alloc)?;
+            assert!(rt; text.as_slice() == want.as_bytes(), "from {from}: {want}");
+        }
+        for from in [
+            case.ends.len(),
+            case.ends.len().saturating_add(1),
+            usize::MAX,
+        ] {
+            assert!(rt; lines_from(alloc, case, from)?.is_empty(), "from {from}");
+        }
     }
     Ok(())
 }
 
 #[test]
-fn prints_journals_written_by_hand(rt: HostRuntime) -> Result<(), Fail> {
+fn journals_are_printed_as_written_by_hand(rt: HostRuntime) -> Result<(), Fail> {
     let alloc = rt.alloc();
-    let typed = contract(alloc)?;
     for case in &CASES {
-        let txs = transactions(alloc, case.requests)?;
-        let entries = entries(alloc, case.ends)?;
-        check_entries(&rt, alloc, &typed, &txs, &entries, case)?;
-
-        let tail = print_tail(alloc, &typed, case.stop, case.cells)?;
+        let tail = tail_of(alloc, case.stop, case.cells)?;
         assert!(rt; tail.as_slice() == case.tail.as_bytes(), "{}", case.tail);
-
-        let journal = print_journal(alloc, &typed, &txs, &entries, case.stop, case.cells)?;
+        let journal = journal_of(alloc, case)?;
         let mut want = case.lines.concat(alloc)?;
         want.push_str(case.tail)?;
         assert!(rt; journal.as_slice() == want.as_bytes(), "{want}");
@@ -471,12 +492,16 @@ fn prints_journals_written_by_hand(rt: HostRuntime) -> Result<(), Fail> {
 }
 
 #[test]
-fn prints_stops(rt: HostRuntime) -> Result<(), Fail> {
-    let alloc = rt.alloc();
-    let typed = contract(alloc)?;
+fn a_head_tells_version_2(rt: HostRuntime) -> Result<(), Fail> {
+    let text = head(rt.alloc())?;
+    assert!(rt; text.as_slice() == b"journal 2\n".as_slice());
+    Ok(())
+}
+
+#[test]
+fn stops_are_printed(rt: HostRuntime) -> Result<(), Fail> {
     for (line, cause, want) in STOPS {
-        let stop = Some(Stop { line, cause });
-        let text = print_tail(alloc, &typed, stop, &[])?;
+        let text = tail_of(rt.alloc(), Some(Stop { line, cause }), &[])?;
         assert!(rt; text.as_slice() == want.as_bytes(), "{want}");
     }
     Ok(())
