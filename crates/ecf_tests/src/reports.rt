@@ -196,11 +196,15 @@ fn write_charge(
     earlier: usize,
 ) -> Result<(), AllocError> {
     if charge > 0 {
-        text.push_str(if text.is_empty() { "" } else { " " })?;
+        if !text.is_empty() {
+            text.push(' ')?;
+        }
         write!(text, "{charge}")?;
     }
-    for step in steps.iter().skip(earlier) {
-        text.push(if step.write { 'w' } else { 'r' })?;
+    for (place, step) in steps.iter().enumerate() {
+        if place >= earlier {
+            text.push(if step.write { 'w' } else { 'r' })?;
+        }
     }
     Ok(())
 }
