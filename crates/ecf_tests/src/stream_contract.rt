@@ -69,5 +69,5 @@ pub(crate) fn zeros_before(alloc: Global, zeros: usize, text: &str) -> Result<Ve
 pub(crate) fn at_least_one(count: usize) -> usize
     ensures { 0 < result }
 {
-    count.max(1)
+    if count > 0 { count } else { 1 }
 }
