@@ -1,5 +1,5 @@
 -- What refuses a contract.
-use Rattle.std.proofs.Common.{◌≡◌, ◌⊎◌, ℕ, List, Option, Some, None, IfSome, Result, Ok, Err, IfOk, IsErrOf, refl, ap, sym, subst, ◌∙◌, inl, inr}
+use Rattle.std.proofs.Common.{◌≡◌, ◌⊎◌, ℕ, List, Option, IfSome, Result, Ok, Err, IfOk, IfErr, refl, ap, ◌∙◌, inl, inr}
 use Rattle.ecf_grammar.specs.declared.tokens.Token.{Token}
 use Rattle.ecf_grammar.specs.Lexemes.{lexemes_of}
 use Rattle.ecf_grammar.specs.Reading.{Fault, IsFaulty, Reads}
@@ -13,10 +13,8 @@ use Rattle.ecf_edge.specs.Count.{counted_up}
 use Rattle.ecf_edge.specs.Shelf.{Files, HoldsNoneUnder, HoldsMoreUnder, faults_after_fetch, long_answers_after_fetch, absences_after_fetch}
 use Rattle.ecf_edge.specs.declared.shelf.Fetch.{Fetch}
 use Rattle.ecf_edge.specs.declared.shelf.Fetch.TheVariants as fetch
-use Rattle.ecf_small.specs.Small.{typed_of}
 use Rattle.ecf_host.specs.declared.failure.Failure.{Failure}
 use Rattle.ecf_host.specs.declared.failure.Failure.TheVariants.{Refused, NoMemory}
-use Rattle.ecf_host.specs.Stages.{◌▷◌}
 use Rattle.ecf_host.specs.Stages.◌▷◌.{refused, went_on}
 use Rattle.ecf_host.specs.World.{ShelfState}
 use Rattle.ecf_lexer.specs.LexFault.{fault_of}
@@ -25,7 +23,7 @@ use Rattle.ecf_lexer.specs.declared.lexer.LexFault.TheVariants as lex
 use Rattle.ecf_parser.specs.SyntaxFault.{HasSyntaxFault}
 use Rattle.ecf_parser.specs.declared.parser.SyntaxFault.{SyntaxFault}
 use Rattle.ecf_parser.specs.declared.parser.SyntaxFault.TheVariants as syntax
-use Rattle.ecf_host.specs.Contract.{fetched, lexed, parsed, built, contract}
+use Rattle.ecf_host.specs.Contract.{fetched, lexed, parsed, typed, contract}
 use Rattle.ecf_host.specs.Failures.{IfRefused, OnNoMemory, failure_of_fetch, failure_of_lexing, failure_of_parsing}
 
 pub lex_refused : (text : List ℕ) (fault : LexFault) → IfSome (fault_of fault) (IsFaulty text) → IfRefused (failure_of_lexing fault) (λ refusal. lexed text (Err refusal))
@@ -50,12 +48,16 @@ pub parsing_refused : (text : List ℕ) (tokens : List Token) (failure : Failure
 parsing_refused text tokens (Refused refusal) reads is = went_on tokens (Err refusal) reads (refused refusal is)
 parsing_refused text tokens NoMemory reads is = tt
 
-pub building_refused : (text : List ℕ) (tokens : List Token) (tree : Tree) (failure : Failure) → Reads text tokens → IsFileOf (lexemes_of text tokens) tree → IfRefused failure (λ refusal. built tree (Err refusal)) → IfRefused failure (λ refusal. contract text (Err refusal))
-building_refused text tokens tree (Refused refusal) reads spelled is = went_on tokens (Err refusal) reads (went_on tree (Err refusal) spelled is)
-building_refused text tokens tree NoMemory reads spelled is = tt
+pub typing_refused : (text : List ℕ) (tokens : List Token) (tree : Tree) (result : Result Typed Failure) → Reads text tokens → IsFileOf (lexemes_of text tokens) tree →
+    IfErr result (λ failure. IfRefused failure (λ refusal. typed tree (Err refusal))) → IfErr result (λ failure. IfRefused failure (λ refusal. contract text (Err refusal)))
+typing_refused text tokens tree (Ok form) reads spelled is = tt
+typing_refused text tokens tree (Err (Refused refusal)) reads spelled is = went_on tokens (Err refusal) reads (went_on tree (Err refusal) spelled is)
+typing_refused text tokens tree (Err NoMemory) reads spelled is = tt
 
-pub contract_is : (text : List ℕ) (tokens : List Token) (tree : Tree) (typed : Typed) → Reads text tokens → IsFileOf (lexemes_of text tokens) tree → typed_of tree ≡ Some typed → contract text (Ok typed)
-contract_is text tokens tree typed reads spelled is = went_on tokens (Ok typed) reads (went_on tree (Ok typed) spelled is)
+pub contract_is : (text : List ℕ) (tokens : List Token) (tree : Tree) (result : Result Typed Failure) → Reads text tokens → IsFileOf (lexemes_of text tokens) tree →
+    IfOk result (λ form. typed tree (Ok form)) → IfOk result (λ form. contract text (Ok form))
+contract_is text tokens tree (Ok form) reads spelled is = went_on tokens (Ok form) reads (went_on tree (Ok form) spelled is)
+contract_is text tokens tree (Err failure) reads spelled is = tt
 
 -- ---- the fetch
 

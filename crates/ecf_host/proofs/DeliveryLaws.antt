@@ -1,8 +1,7 @@
 -- How far a text was put on a sink.
-use Rattle.std.proofs.Common.{◌≡◌, ◌++◌, ℕ, List, [], ◌∷◌, Option, Some, None, Result, Ok, Err, OnOk, refl, ap, sym, subst, ◌∙◌}
+use Rattle.std.proofs.Common.{◌≡◌, ℕ, List, [], Option, Some, None, Result, Ok, Err, OnOk, refl, ap, sym}
 use Rattle.std.proofs.lemmas.List.{append-nil}
-use Rattle.ecf_edge.specs.Count.{counted_up}
-use Rattle.ecf_edge.specs.Sink.{Grew, GrewByPrefix, faults_after_write, appended}
+use Rattle.ecf_edge.specs.Sink.{Grew, GrewByPrefix, faults_after_write}
 use Rattle.ecf_edge.specs.declared.sink.WriteFault.{WriteFault}
 use Rattle.ecf_edge.specs.declared.sink.WriteFault.TheVariants as write
 use Rattle.ecf_host.specs.Delivery.{IsPut, status_after}

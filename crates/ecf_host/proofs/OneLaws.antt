@@ -1,33 +1,32 @@
 -- Each stage comes to one outcome at most, where shelf and source are told and nothing failed; so a chain of stages does.
-use Rattle.std.proofs.Common.{◌≡◌, ◌≢◌, ◌<◌, ◌≤◌, ◌+◌, ◌++◌, ℕ, zero, suc, List, [], ◌∷◌, Option, Some, None, IfSome, length, Result, Ok, Err, refl, ap, sym, subst, ◌∙◌, arith, IsPermutation}
-use Rattle.std.specs.Prelude.{IsSomeAnd, sum_by}
-use Rattle.std.proofs.lemmas.List.Sorted.{length_permutation, sum_by-IsPermutation}
+use Rattle.std.proofs.Common.{◌≡◌, ◌<◌, ◌≤◌, ℕ, false, List, [], Option, Some, None, IfSome, length, Result, Ok, Err, refl, ap, sym, subst, ◌∙◌, arith}
+use Rattle.std.specs.Prelude.{IsSomeAnd}
 use Rattle.ecf_edge.specs.Count.{Rose, counted_up}
 use Rattle.ecf_edge.specs.Shelf.{Files, content_of}
 use Rattle.ecf_grammar.specs.declared.tokens.Token.{Token}
 use Rattle.ecf_grammar.specs.Lexemes.{Lexeme, lexemes_of}
 use Rattle.ecf_grammar.specs.Readings.{OneReading, ReadOrRefused, OneFault}
 use Rattle.ecf_grammar.specs.Spells.{IsFileOf, IsOutOfPlace, IsTooDeep, OneTree, OneAnswer}
-use Rattle.ecf_journals.specs.Journals.{text_along}
 use Rattle.ecf_lang.specs.declared.limits.TheConstants.{MAX_CONTRACT_BYTES}
 use Rattle.ecf_lang.specs.declared.tree.Tree.{Tree}
 use Rattle.ecf_lang.specs.declared.typed.Typed.{Typed}
-use Rattle.ecf_lang.specs.declared.tx.Tx.{Tx}
-use Rattle.ecf_lines.specs.Line.{line_of}
-use Rattle.ecf_lines.specs.OneLine.{IsOneLine}
-use Rattle.ecf_small.specs.Small.{typed_of}
-use Rattle.ecf_verdicts.specs.Journals.{IsLegal}
-use Rattle.std.specs.Str.Lines.{strip_carriage_return}
+use Rattle.ecf_lines.specs.Stream.{StreamSaid, stream_said}
+use Rattle.ecf_faults.specs.declared.What.{What}
+use Rattle.ecf_faults.specs.Expressions.{fault}
+use Rattle.ecf_faults.specs.Declarations.{faults_of_tree, numbered_form}
+use Rattle.ecf_faults.specs.Least.{IsLeast}
 use Rattle.ecf_host.specs.declared.refusal.Refusal.{Refusal}
-use Rattle.ecf_host.specs.declared.refusal.Refusal.TheVariants.{Words, TooLong, BadByte, WideNumber, TooManyTokens, Syntax, TooDeep, Unbuilt, StreamUnbuilt, Missing, ReadFault, StreamReadFault}
+use Rattle.ecf_host.specs.declared.refusal.Refusal.TheVariants.{Words, TooLong, Syntax, TooDeep, Typing, Missing, ReadFault}
 use Rattle.ecf_host.specs.Answers.{Answer}
-use Rattle.ecf_host.specs.Contract.{fetched, refusal_of_fault, lexed, parsed, built, contract}
-use Rattle.ecf_host.specs.Due.{IsRun, ran, due_of_run, refused_words, due, IsSmooth, OneDue}
+use Rattle.ecf_host.specs.Contract.{fetched, refusal_of_fault, lexed, parsed, typed, contract}
+use Rattle.ecf_host.specs.Due.{journal_answer, ran, due_of_run, refused_words, IsSmooth, OneDue}
 use Rattle.ecf_host.specs.Stages.{Stage, ◌▷◌, of_shelf, computed, of_source, OneAtMost}
 use Rattle.ecf_host.specs.Stages.◌▷◌.{refused, went_on}
-use Rattle.ecf_host.specs.Stream.{streamed}
+use Rattle.ecf_host.specs.Stream.{IsStream, streamed}
+use Rattle.ecf_host.specs.Stream.IsStream.{read_on, cut_off}
 use Rattle.ecf_host.specs.Words.{Command}
 use Rattle.ecf_host.specs.World.{Inputs, ShelfState, SourceState}
+use Rattle.ecf_host.proofs.TypeLaws.{none_least, one_least}
 
 -- ---- chains
 
@@ -147,89 +146,49 @@ module _ (tree : OneTree) (answer : OneAnswer) where
   parsed_one : (text : List ℕ) (tokens : List Token) → OneAtMost (parsed text tokens)
   parsed_one text tokens some other h k = one_parsed (lexemes_of text tokens) some other (parse_found text tokens some h) (parse_found text tokens other k)
 
--- the outcome of a tree's numbered form
-form_outcome : Option Typed → Result Typed Refusal
-form_outcome (Some typed) = Ok typed
-form_outcome None = Err Unbuilt
+-- what the check of names and types finds
+data Checked (tree : Tree) : Result Typed Refusal → Type 0 where
+  is_sound : faults_of_tree tree ≡ [] → Checked tree (Ok (numbered_form tree))
+  is_faulty : (token : ℕ) (what : What) → IsLeast (fault token what) (faults_of_tree tree) → Checked tree (Err (Typing token what))
 
-built_is : (tree : Tree) (outcome : Result Typed Refusal) → built tree outcome → outcome ≡ form_outcome (typed_of tree)
-unfolding form_outcome
-built_is tree (Ok typed) is = ap form_outcome (sym is)
-built_is tree (Err Unbuilt) is = ap form_outcome (sym is)
-built_is tree (Err _) is = absurd is
+one_checked : (tree : Tree) (some other : Result Typed Refusal) → Checked tree some → Checked tree other → some ≡ other
+one_checked tree some other (is_sound h) (is_sound k) = refl
+one_checked tree some other (is_sound h) (is_faulty token what k) = absurd (none_least _ h (fault token what) k)
+one_checked tree some other (is_faulty token what h) (is_sound k) = absurd (none_least _ k (fault token what) h)
+one_checked tree some other (is_faulty token what h) (is_faulty place kind k) =
+    ap (λ f. Err (Typing f.token f.what)) (one_least (faults_of_tree tree) (fault token what) (fault place kind) h k)
 
-built_one : (tree : Tree) → OneAtMost (built tree)
-built_one tree = determined (built tree) (form_outcome (typed_of tree)) (built_is tree)
+check_found : (tree : Tree) (outcome : Result Typed Refusal) → typed tree outcome → Checked tree outcome
+check_found tree (Ok form) is = subst (λ f. Checked tree (Ok f)) (sym is.1) (is_sound is.0)
+check_found tree (Err (Typing token what)) is = is_faulty token what is
+check_found tree (Err _) is = absurd is
+
+typed_one : (tree : Tree) → OneAtMost (typed tree)
+typed_one tree some other h k = one_checked tree some other (check_found tree some h) (check_found tree other k)
 
 -- ---- the stream
 
--- what a line says, behind which an LF stands
-same_line : (line other : List ℕ) → line ++ 10 ∷ [] ≡ other ++ 10 ∷ [] → line ≡ other
-same_line [] [] is = refl
-same_line [] (x ∷ []) is = absurd (let long = ap length is in omega arith)
-same_line [] (x ∷ y ∷ more) is = absurd (let long = ap length is in omega arith)
-same_line (x ∷ []) [] is = absurd (let long = ap length is in omega arith)
-same_line (x ∷ y ∷ more) [] is = absurd (let long = ap length is in omega arith)
-same_line (x ∷ line) (y ∷ other) is =
-    let first : x ≡ y = cc in
-    let rest : line ++ 10 ∷ [] ≡ other ++ 10 ∷ [] = cc in
-    let same : line ≡ other = same_line line other rest in cc
-
--- a stream is one transaction at most
-one_line : (typed : Typed) (bytes : List ℕ) (tx other : Tx) → IsOneLine typed bytes tx → IsOneLine typed bytes other → tx ≡ other
-one_line typed bytes tx other is also =
-    let same : is.line ≡ also.line = same_line is.line also.line (sym is.line_is.ended ∙ also.line_is.ended) in
-    let says : line_of typed (strip_carriage_return is.line) ≡ line_of typed (strip_carriage_return also.line) = ap (λ line. line_of typed (strip_carriage_return line)) same in
-    let first : line_of typed (strip_carriage_return is.line) ≡ Ok (Some tx) = is.says in
-    let second : line_of typed (strip_carriage_return also.line) ≡ Ok (Some other) = also.says in
-    cc
-
--- what a stream that is read without a fault is
-data Said (typed : Typed) (bytes : List ℕ) : Result Tx Refusal → Type 0 where
-  is_one : (tx : Tx) → IsOneLine typed bytes tx → Said typed bytes (Ok tx)
-  is_no_line : ((tx : Tx) → ¬ IsOneLine typed bytes tx) → Said typed bytes (Err StreamUnbuilt)
-
-one_said : (typed : Typed) (bytes : List ℕ) (some other : Result Tx Refusal) → Said typed bytes some → Said typed bytes other → some ≡ other
-one_said typed bytes some other (is_one tx h) (is_one ux k) = ap Ok (one_line typed bytes tx ux h k)
-one_said typed bytes some other (is_one tx h) (is_no_line k) = absurd (k tx h)
-one_said typed bytes some other (is_no_line h) (is_one ux k) = absurd (h ux k)
-one_said typed bytes some other (is_no_line h) (is_no_line k) = refl
+-- what is told of a stream that is read without a fault
+told_stream : (left : Option (List ℕ)) (bytes read : List ℕ) → left ≡ Some bytes → IfSome left (λ all. all ≡ read) → bytes ≡ read
+told_stream left bytes read is all = told (λ b. b ≡ read) left bytes is all
 
 module _ (typed : Typed) (before after : SourceState) (bytes : List ℕ) (is_told : before.left ≡ Some bytes) (calm : ¬ Rose before.faults after.faults) where
-  said : (outcome : Result Tx Refusal) → streamed typed before after outcome → Said typed bytes outcome
-  said (Ok tx) is = is_one tx (told (λ bs. IsOneLine typed bs tx) before.left bytes is_told is.says)
-  said (Err StreamUnbuilt) is = is_no_line (told (λ bs. (tx : Tx) → ¬ IsOneLine typed bs tx) before.left bytes is_told is.says_none)
-  said (Err StreamReadFault) is = absurd (calm (counted_rose before.faults after.faults is.faults))
-  said (Err _) is = absurd is
+  stream_is : (said : StreamSaid) → IsStream typed before after said → said ≡ stream_said typed false 0 bytes false
+  stream_is said (read_on h) = h.says ∙ ap (λ b. stream_said typed false 0 b false) (sym (told_stream before.left bytes h.bytes is_told h.told))
+  stream_is said (cut_off h) = absurd (calm (counted_rose before.faults after.faults h.faults))
+
+  streamed_is : (outcome : Result StreamSaid Refusal) → streamed typed before after outcome → outcome ≡ Ok (stream_said typed false 0 bytes false)
+  streamed_is (Ok said) is = ap Ok (stream_is said is)
+  streamed_is (Err refusal) is = absurd is
 
   streamed_one : OneAtMost (streamed typed before after)
-  streamed_one some other h k = one_said typed bytes some other (said some h) (said other k)
+  streamed_one = determined (streamed typed before after) (Ok (stream_said typed false 0 bytes false)) streamed_is
 
 -- ---- the run
 
--- one place in any order
-only_place : (places : List ℕ) → length places ≡ 1 → sum_by (λ x. x) places ≡ 0 → places ≡ 0 ∷ []
-only_place [] long sum = absurd (omega arith)
-only_place (x ∷ []) long sum = let zero_is : x ≡ 0 = omega arith in ap (λ n. n ∷ []) zero_is
-only_place (x ∷ y ∷ more) long sum = absurd (omega arith)
-
-one_order : (tx : Tx) (places : List ℕ) → IsLegal (tx ∷ []) places → places ≡ 0 ∷ []
-one_order tx places legal = only_place places (length_permutation (0 ∷ []) places legal.each_once) (sum_by-IsPermutation (λ x. x) (0 ∷ []) places legal.each_once)
-
-the_answer : Typed → Tx → Answer
-the_answer typed tx = record { status = 0; out = text_along 1 typed (tx ∷ []) (0 ∷ []) None; note = [] }
-
-same_answer : (some other : Answer) → some.status ≡ other.status → some.out ≡ other.out → some.note ≡ other.note → some ≡ other
-same_answer some other status out note =
-    ap (λ (x : ℕ). let answer : Answer = record some { status = x } in answer) status
-    ∙ (ap (λ (x : List ℕ). let answer : Answer = record some { status = other.status; out = x } in answer) out
-    ∙ ap (λ (x : List ℕ). let answer : Answer = record other { note = x } in answer) note)
-
-ran_is : (typed : Typed) (tx : Tx) (outcome : Result Answer Refusal) → ran typed tx outcome → outcome ≡ Ok (the_answer typed tx)
-unfolding the_answer
-ran_is typed tx (Ok answer) is =
-    ap Ok (same_answer answer (the_answer typed tx) is.status (is.journal.serial ∙ ap (λ places. text_along 1 typed (tx ∷ []) places None) (one_order tx is.journal.places is.journal.legal)) is.no_note)
-ran_is typed tx (Err refusal) is = absurd is
+ran_is : (typed : Typed) (said : StreamSaid) (outcome : Result Answer Refusal) → ran typed said outcome → outcome ≡ Ok (journal_answer typed said)
+ran_is typed said (Ok answer) is = ap Ok is.in_order
+ran_is typed said (Err refusal) is = absurd is
 
 -- ---- what is due
 
@@ -239,8 +198,8 @@ refused_words_is (Err refusal) is = ap Err is
 
 module _ (reading : OneReading) (apart : ReadOrRefused) (fault : OneFault) (tree : OneTree) (answer : OneAnswer) where
   contract_one : (text : List ℕ) → OneAtMost (contract text)
-  contract_one text = chain_one (lexed text) (λ tokens. parsed text tokens ▷ built) (lexed_one reading apart fault text)
-      (λ tokens. chain_one (parsed text tokens) built (parsed_one tree answer text tokens) built_one)
+  contract_one text = chain_one (lexed text) (λ tokens. parsed text tokens ▷ typed) (lexed_one reading apart fault text)
+      (λ tokens. chain_one (parsed text tokens) typed (parsed_one tree answer text tokens) typed_one)
 
   run_one : (file : List ℕ) (before after : Inputs) → IsSmooth before after → OneAtMost (due_of_run file before after)
   run_one file before after smooth =
@@ -252,7 +211,7 @@ module _ (reading : OneReading) (apart : ReadOrRefused) (fault : OneFault) (tree
       (λ typed. chain_one (of_source before after (streamed typed before.source after.source)) (ran typed)
       (narrower (streamed typed before.source after.source) (of_source before after (streamed typed before.source after.source)) (λ outcome is. is.0)
       (streamed_one typed before.source after.source smooth.bytes smooth.bytes_told smooth.reads))
-      (λ tx. determined (ran typed tx) (Ok (the_answer typed tx)) (ran_is typed tx))))
+      (λ said. determined (ran typed said) (Ok (journal_answer typed said)) (ran_is typed said))))
 
   pub one_due : OneDue
   one_due (Some (Command.Run file)) before after smooth = run_one file before after smooth

@@ -1,5 +1,5 @@
--- The stages of a contract: its file is fetched, cut into tokens, read as a tree and built.
-use Rattle.std.specs.Prelude.{◌≡◌, ℕ, ◌≤◌, List, length, Option, Some, None, Result, Ok, Err}
+-- The stages of a contract: its file is fetched, cut into tokens, read as a tree, and given numbers for names.
+use Rattle.std.specs.Prelude.{◌≡◌, ℕ, ◌≤◌, List, length, [], Ok, Err}
 use Rattle.ecf_lang.specs.declared.limits.TheConstants.{MAX_CONTRACT_BYTES}
 use Rattle.ecf_lang.specs.declared.tree.Tree.{Tree}
 use Rattle.ecf_lang.specs.declared.typed.Typed.{Typed}
@@ -9,9 +9,11 @@ use Rattle.ecf_grammar.specs.declared.tokens.Token.{Token}
 use Rattle.ecf_grammar.specs.Reading.{Reads, IsFaulty, Fault}
 use Rattle.ecf_grammar.specs.Lexemes.{lexemes_of}
 use Rattle.ecf_grammar.specs.Spells.{IsFileOf, IsOutOfPlace, IsTooDeep}
-use Rattle.ecf_small.specs.Small.{typed_of}
+use Rattle.ecf_faults.specs.Expressions.{fault}
+use Rattle.ecf_faults.specs.Declarations.{faults_of_tree, numbered_form}
+use Rattle.ecf_faults.specs.Least.{IsLeast}
 use Rattle.ecf_host.specs.declared.refusal.Refusal.{Refusal}
-use Rattle.ecf_host.specs.declared.refusal.Refusal.TheVariants.{TooLong, BadByte, WideNumber, TooManyTokens, Syntax, TooDeep, Unbuilt, Missing, ReadFault}
+use Rattle.ecf_host.specs.declared.refusal.Refusal.TheVariants.{TooLong, BadByte, WideNumber, TooManyTokens, Syntax, TooDeep, Typing, Missing, ReadFault}
 use Rattle.ecf_host.specs.Stages.{Stage, ◌▷◌}
 use Rattle.ecf_host.specs.World.{ShelfState}
 
@@ -48,12 +50,12 @@ parsed text tokens (Err (Syntax token)) = IsOutOfPlace (lexemes_of text tokens) 
 parsed text tokens (Err (TooDeep token)) = IsTooDeep (lexemes_of text tokens) token
 parsed text tokens (Err _) = ⊥
 
--- built: the numbered form of a tree, where it is of the kind that can be run so far
-abbrev pub built : Tree → Stage Typed
-built tree (Ok typed) = typed_of tree ≡ Some typed
-built tree (Err Unbuilt) = typed_of tree ≡ None
-built tree (Err _) = ⊥
+-- typed: the numbered form of a tree in which no name and no type is wrong, or its first fault
+abbrev pub typed : Tree → Stage Typed
+typed tree (Ok form) = (faults_of_tree tree ≡ []) × (form ≡ numbered_form tree)
+typed tree (Err (Typing token what)) = IsLeast (fault token what) (faults_of_tree tree)
+typed tree (Err _) = ⊥
 
 -- the contract that a text is
 abbrev pub contract : List ℕ → Stage Typed
-contract text = lexed text ▷ (λ tokens. parsed text tokens ▷ built)
+contract text = lexed text ▷ (λ tokens. parsed text tokens ▷ typed)

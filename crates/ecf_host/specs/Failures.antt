@@ -1,18 +1,16 @@
 -- Why a command has no report, and what faults of the calls that it makes become: nothing but want of memory becomes that.
-use Rattle.std.specs.Prelude.{ℕ, Result, Ok, Err}
 use Rattle.ecf_edge.specs.declared.shelf.Fetch.{Fetch}
 use Rattle.ecf_edge.specs.declared.shelf.Fetch.TheVariants as fetch
-use Rattle.ecf_edge.specs.declared.source.Incomplete.{Incomplete}
-use Rattle.ecf_edge.specs.declared.source.Incomplete.TheVariants as incomplete
 use Rattle.ecf_lexer.specs.declared.lexer.LexFault.{LexFault}
 use Rattle.ecf_lexer.specs.declared.lexer.LexFault.TheVariants as lex
 use Rattle.ecf_parser.specs.declared.parser.SyntaxFault.{SyntaxFault}
 use Rattle.ecf_parser.specs.declared.parser.SyntaxFault.TheVariants as syntax
+use Rattle.ecf_typing.specs.declared.file.TypeFault.{TypeFault}
+use Rattle.ecf_typing.specs.declared.file.TypeFault.TheVariants as typing
 use Rattle.ecf_host.specs.declared.failure.Failure.{Failure}
 use Rattle.ecf_host.specs.declared.failure.Failure.TheVariants.{Refused, NoMemory}
 use Rattle.ecf_host.specs.declared.refusal.Refusal.{Refusal}
-use Rattle.ecf_host.specs.declared.refusal.Refusal.TheVariants.{TooLong, BadByte, WideNumber, TooManyTokens, Syntax, TooDeep}
-use Rattle.ecf_host.specs.declared.refusal.Refusal.TheVariants.{StreamUnbuilt, Missing, ReadFault, StreamReadFault}
+use Rattle.ecf_host.specs.declared.refusal.Refusal.TheVariants.{TooLong, BadByte, WideNumber, TooManyTokens, Syntax, TooDeep, Typing, Missing, ReadFault}
 
 -- where the failure is a refusal, this holds of it
 abbrev pub IfRefused : Failure → (Refusal → Type 0) → Type 0
@@ -44,7 +42,7 @@ failure_of_parsing (syntax.At token) = Refused (Syntax token)
 failure_of_parsing (syntax.TooDeep token) = Refused (TooDeep token)
 failure_of_parsing syntax.NoMemory = NoMemory
 
--- a stream that wasn't read whole
-abbrev pub failure_of_reading : Incomplete → Failure
-failure_of_reading incomplete.OverLimit = Refused StreamUnbuilt
-failure_of_reading incomplete.Failed = Refused StreamReadFault
+-- a fault of the contract's names and types
+abbrev pub failure_of_typing : TypeFault → Failure
+failure_of_typing (typing.At token what) = Refused (Typing token what)
+failure_of_typing typing.NoMemory = NoMemory

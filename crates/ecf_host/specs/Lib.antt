@@ -4,6 +4,7 @@ pub mod World
 pub mod Stages
 pub mod Contract
 pub mod Stream
+pub mod Serial
 pub mod Answers
 pub mod Due
 pub mod Served

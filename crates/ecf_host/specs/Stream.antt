@@ -1,42 +1,58 @@
--- The stage of a stream: it is read to its transactions.
-use Rattle.std.specs.Prelude.{◌≡◌, ◌⊎◌, ◌+◌, ℕ, List, length, Option, IfSome, Result, Ok, Err}
-use Rattle.ecf_lang.specs.declared.limits.TheConstants.{MAX_STREAM_BYTES}
+-- The stage of a stream: it is read to its end or to the first stop.
+use Rattle.std.specs.Prelude.{◌≡◌, ◌≢◌, ◌⊎◌, ℕ, true, false, List, [], length, map, Option, Some, None, IfSome, Ok, Err}
+use Rattle.std.specs.Arc.{arc_value}
+use Rattle.std.specs.Option.{IsSomeAnd}
+use Rattle.ecf_lang.specs.declared.receipt.Stop.{Stop}
+use Rattle.ecf_lang.specs.declared.receipt.StopCause.TheVariants.{Long, Bytes, Read}
 use Rattle.ecf_lang.specs.declared.typed.Typed.{Typed}
-use Rattle.ecf_lang.specs.declared.tx.Tx.{Tx}
-use Rattle.ecf_lang.specs.Fits.{Fits}
 use Rattle.ecf_edge.specs.Count.{counted_up}
 use Rattle.ecf_edge.specs.Source.{Gave, GaveSome, IsAtEnd}
-use Rattle.ecf_lines.specs.OneLine.{IsOneLine}
-use Rattle.ecf_host.specs.declared.refusal.Refusal.{Refusal}
-use Rattle.ecf_host.specs.declared.refusal.Refusal.TheVariants.{StreamUnbuilt, StreamReadFault}
+use Rattle.ecf_lines.specs.Stream.{StreamSaid, lines_of, stream_said}
+use Rattle.ecf_host.specs.declared.stream.Stream.{Stream}
 use Rattle.ecf_host.specs.Stages.{Stage}
 use Rattle.ecf_host.specs.World.{SourceState}
 
--- the stream is this one transaction, which fits the contract, and it was read to its end
-pub record IsStream (typed : Typed) (before after : SourceState) (tx : Tx) : Type 0 where
-  pub says : IfSome before.left (λ bytes. IsOneLine typed bytes tx)
-  pub fits : Fits typed tx
-  pub at_end : IsAtEnd after.left
+-- the stop says that a read failed
+abbrev pub IsReadFault : Option Stop → Type 0
+IsReadFault stop = IsSomeAnd stop (λ s. s.cause ≡ Read)
+
+-- Reading these bytes comes to their end: there is no stop, or one for the form of the last line, which no LF ended, and for no limit.
+abbrev pub ReadsToEnd : List ℕ → Option Stop → Type 0
+ReadsToEnd bytes None = Unit {0}
+ReadsToEnd bytes (Some stop) = (stop.line ≡ length (lines_of bytes)) × (stop.cause ≢ Long) × (stop.cause ≢ Bytes)
+
+-- no read failed: what was read is what the bytes of the stream say, all of them
+pub record IsReadOn (typed : Typed) (before after : SourceState) (said : StreamSaid) : Type 0 where
+  pub bytes : List ℕ
+  pub told : IfSome before.left (λ left. left ≡ bytes)
+  pub says : said ≡ stream_said typed false 0 bytes false
+  pub gave : GaveSome before.left after.left
+  pub at_end : ReadsToEnd bytes said.stop → IsAtEnd after.left
+  pub no_fault : ¬ IsReadFault said.stop
   pub faults : after.faults ≡ before.faults
 
--- one byte over the limit was read
-abbrev pub IsOverLimit : SourceState → SourceState → Type 0
-IsOverLimit before after = (piece : List ℕ) × Gave before.left piece after.left × (length piece ≡ MAX_STREAM_BYTES + 1)
-
--- the stream is no such transaction: it was read to its end, or over its limit, and no read failed
-pub record IsNoStream (typed : Typed) (before after : SourceState) : Type 0 where
-  pub says_none : IfSome before.left (λ bytes. (tx : Tx) → ¬ IsOneLine typed bytes tx)
-  pub read : IsAtEnd after.left ⊎ IsOverLimit before after
-  pub faults : after.faults ≡ before.faults
-
--- one read failed, behind some first part of the stream
-pub record IsCutOff (before after : SourceState) : Type 0 where
-  pub part : GaveSome before.left after.left
+-- one read failed: what was read is what the bytes before it say, and the stop tells the failed read
+pub record IsCutOff (typed : Typed) (before after : SourceState) (said : StreamSaid) : Type 0 where
+  pub bytes : List ℕ
+  pub gave : Gave before.left bytes after.left
+  pub says : said ≡ stream_said typed false 0 bytes true
+  pub fault : IsReadFault said.stop
   pub faults : after.faults ≡ counted_up before.faults
 
--- streamed: the one transaction of a stream
-abbrev pub streamed : Typed → SourceState → SourceState → Stage Tx
-streamed typed before after (Ok tx) = IsStream typed before after tx
-streamed typed before after (Err StreamUnbuilt) = IsNoStream typed before after
-streamed typed before after (Err StreamReadFault) = IsCutOff before after
-streamed typed before after (Err _) = ⊥
+-- the transactions of a stream up to its end or its first stop, and that stop
+pub data IsStream (typed : Typed) (before after : SourceState) (said : StreamSaid) : Type 0 where
+  read_on : IsReadOn typed before after said → IsStream typed before after said
+  cut_off : IsCutOff typed before after said → IsStream typed before after said
+
+-- streamed: what the stream says; a stop is no refusal
+abbrev pub streamed : Typed → SourceState → SourceState → Stage StreamSaid
+streamed typed before after (Ok said) = IsStream typed before after said
+streamed typed before after (Err refusal) = ⊥
+
+-- what was read, as plain transactions
+abbrev pub said_of : Stream → StreamSaid
+said_of stream = record { txs = map arc_value stream.txs.items; offs = []; stop = stream.stop }
+
+-- memory ran out while a stream was read: no read failed, or all was read
+abbrev pub IsLost : Typed → SourceState → SourceState → Type 0
+IsLost typed before after = (after.faults ≡ before.faults) ⊎ ((said : StreamSaid) × IsStream typed before after said)

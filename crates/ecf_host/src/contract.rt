@@ -1,24 +1,24 @@
-//! The contract file: fetched from the shelf, cut into tokens, read as a tree and built.
+//! The contract file: fetched from the shelf, cut into tokens, read as a tree, and given numbers for names.
 
 ghost use Rattle.std.specs.Prelude.{◌≡◌, ◌≤◌, IfOk, IfErr, Ok, Err, length};
 ghost use Rattle.ecf_grammar.specs.Reading.{Reads};
 ghost use Rattle.ecf_heap.specs.Numbered.{IsWithinLimits};
-ghost use Rattle.ecf_interp.specs.Built.{IsBuilt};
 ghost use Rattle.ecf_lines.specs.Line.{IsNumbered};
-ghost use Rattle.ecf_host.specs.Contract.{fetched, lexed, parsed, built, contract};
+ghost use Rattle.ecf_wellformed.specs.WellFormed.{IsWellFormed};
+ghost use Rattle.ecf_host.specs.Contract.{fetched, lexed, parsed, typed, contract};
 ghost use Rattle.ecf_host.specs.Failures.{IfRefused, OnNoMemory};
 ghost use Rattle.ecf_host.specs.World.{shelf_state};
 
 use crate::failure::Failure;
-use crate::refusal::Refusal;
 use ecf_edge::Shelf;
-use ecf_interp::laws::built_forms;
-use ecf_lang::limits::MAX_CONTRACT_BYTES;
+use ecf_lang::limits::{MAX_CONTRACT_BYTES, MAX_OBJECTS};
 use ecf_lang::tree::Tree;
 use ecf_lang::typed::Typed;
 use ecf_lexer::{Token, lex};
 use ecf_parser::parse;
-use ecf_small::{build, small_contracts};
+use ecf_typing::check;
+use ecf_wellformed::well_formed_is_numbered;
+use ecf_welltyped::numbered_form_is_well_formed;
 use std::alloc::Global;
 
 /// The text of a contract file.
@@ -37,18 +37,31 @@ pub fn fetch_contract<F: Shelf>(
 }
 
 /// The contract that a text is.
-#[tactic(auto, using(crate::proofs::ContractLaws::contract_is))]
+#[tactic(auto, using(crate::proofs::TypeLaws::contract_is_well_formed, crate::proofs::TypeLaws::well_formed_within_limits))]
 pub fn contract_of(alloc: Global, text: &[u8]) -> Result<Typed, Failure>
     requires { length text.now ≤ MAX_CONTRACT_BYTES }
     ensures contract { IfOk result (λ typed. contract text.now (Ok typed)) }
     ensures refused { IfErr result (λ failure. IfRefused failure (λ refusal. contract text.now (Err refusal))) }
-    ensures runs { IfOk result IsBuilt }
+    ensures well_formed { IfOk result IsWellFormed }
     ensures numbered { IfOk result IsNumbered }
     ensures limits { IfOk result IsWithinLimits }
+    ensures few_objects { IfOk result (λ typed. length typed.objects ≤ MAX_OBJECTS) }
+{
+    numbered_form_is_well_formed();
+    well_formed_is_numbered();
+    let typed = read_contract(alloc, text)?;
+    Ok(typed)
+}
+
+// The contract that a text is, stage by stage.
+fn read_contract(alloc: Global, text: &[u8]) -> Result<Typed, Failure>
+    requires { length text.now ≤ MAX_CONTRACT_BYTES }
+    ensures contract { IfOk result (λ typed. contract text.now (Ok typed)) }
+    ensures refused { IfErr result (λ failure. IfRefused failure (λ refusal. contract text.now (Err refusal))) }
 {
     let tokens = tokens_of(alloc, text)?;
     let tree = tree_of(alloc, text, tokens.as_slice())?;
-    Ok(typed_of(alloc, &tree)?)
+    typed_of(alloc, &tree)
 }
 
 // The tokens of a text.
@@ -71,19 +84,11 @@ fn tree_of(alloc: Global, text: &[u8], tokens: &[Token]) -> Result<Tree, Failure
     Ok(parse(alloc, text, tokens)?)
 }
 
-// The numbered form of a tree, and what holds of it.
-#[tactic(auto, using(crate::proofs::SmallLaws::small_is_built, crate::proofs::SmallLaws::small_is_numbered, crate::proofs::SmallLaws::small_is_within_limits))]
+// The numbered form of a tree.
+#[tactic(auto, using(crate::proofs::TypeLaws::check_refused))]
 fn typed_of(alloc: Global, tree: &Tree) -> Result<Typed, Failure>
-    ensures typed { IfOk result (λ typed. built tree.now (Ok typed)) }
-    ensures refused { IfErr result (λ failure. IfRefused failure (λ refusal. built tree.now (Err refusal))) }
-    ensures runs { IfOk result IsBuilt }
-    ensures numbered { IfOk result IsNumbered }
-    ensures limits { IfOk result IsWithinLimits }
+    ensures typed { IfOk result (λ form. typed tree.now (Ok form)) }
+    ensures refused { IfErr result (λ failure. IfRefused failure (λ refusal. typed tree.now (Err refusal))) }
 {
-    small_contracts();
-    built_forms();
-    match build(alloc, tree)? {
-        Some(typed) => Ok(typed),
-        None => Err(Failure::Refused(Refusal::Unbuilt)),
-    }
+    Ok(check(alloc, tree)?)
 }

@@ -1,13 +1,14 @@
 //! What comes of a command: a report, or why there is none.
 
 ghost use Rattle.std.specs.Prelude.{◌≡◌};
-ghost use Rattle.ecf_host.specs.Failures.{failure_of_fetch, failure_of_lexing, failure_of_parsing, failure_of_reading};
+ghost use Rattle.ecf_host.specs.Failures.{failure_of_fetch, failure_of_lexing, failure_of_parsing, failure_of_typing};
 ghost use Rattle.ecf_host.specs.declared.failure.Failure.TheVariants.{NoMemory};
 
 use crate::refusal::Refusal;
-use ecf_edge::{Fetch, Incomplete};
+use ecf_edge::Fetch;
 use ecf_lexer::LexFault;
 use ecf_parser::SyntaxFault;
+use ecf_typing::TypeFault;
 use std::alloc::AllocError;
 
 /// What is written on `out`, and the status that it comes with.
@@ -70,13 +71,13 @@ impl From<SyntaxFault> for Failure {
     }
 }
 
-impl From<Incomplete> for Failure {
-    ghost from_gives = { λ cause failure. failure ≡ failure_of_reading cause };
+impl From<TypeFault> for Failure {
+    ghost from_gives = { λ fault failure. failure ≡ failure_of_typing fault };
 
-    fn from(cause: Incomplete) -> Failure {
-        match cause {
-            Incomplete::OverLimit => Failure::Refused(Refusal::StreamUnbuilt),
-            Incomplete::Failed => Failure::Refused(Refusal::StreamReadFault),
+    fn from(fault: TypeFault) -> Failure {
+        match fault {
+            TypeFault::At { token, what } => Failure::Refused(Refusal::Typing { token, what }),
+            TypeFault::NoMemory => Failure::NoMemory,
         }
     }
 }

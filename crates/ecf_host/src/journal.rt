@@ -1,66 +1,162 @@
-//! The journal of one transaction: run, judged, settled and printed.
+//! The journal of transactions: each is run and judged on what those before it left, and then all of them are printed.
 
-ghost use Rattle.std.specs.Prelude.{◌≡◌, [], ◌∷◌, IfOk, All, None, length};
-ghost use Rattle.ecf_lang.specs.Fits.{Fits};
+ghost use Rattle.std.specs.Prelude.{◌≡◌, ◌≤◌, All, IfOk, OnOk, length, map};
+ghost use Rattle.std.specs.Arc.{arc_value};
 ghost use Rattle.ecf_heap.specs.Numbered.{IsWithinLimits};
-ghost use Rattle.ecf_interp.specs.Built.{IsBuilt};
-ghost use Rattle.ecf_verdicts.specs.Receipts.{receipt_of};
-ghost use Rattle.ecf_journals.specs.Journals.{IsJournal};
+ghost use Rattle.ecf_host.specs.Serial.{HasSettled};
+ghost use Rattle.ecf_journals.specs.Journals.{text_along};
+ghost use Rattle.ecf_lang.specs.Fits.{Fits};
+ghost use Rattle.ecf_lang.specs.Store.{with_writes};
+ghost use Rattle.ecf_lang.specs.declared.limits.TheConstants.{MAX_TRANSACTIONS};
+ghost use Rattle.ecf_online.specs.declared.limits.TheConstants.{MAX_STEPS};
+ghost use Rattle.ecf_texts.specs.Journal.{journal_text};
+ghost use Rattle.ecf_verdicts.specs.Journals.{places};
+ghost use Rattle.ecf_verdicts.specs.Receipts.{next_store, receipt_of, receipt_of_answer, receipt_on, store_after};
+ghost use Rattle.ecf_verdicts.specs.Verdicts.{verdict};
 
-use ecf_heap::genesis;
-use ecf_interp::laws::steps_are_of_the_first_invocation;
-use ecf_interp::run;
-use ecf_lang::receipt::{Entry, Receipt};
-use ecf_lang::run::{Outcome, Run};
-use ecf_lang::tx::Tx;
+use ecf_heap::{Heap, genesis};
+use ecf_judge::{Verdict, judge};
+use ecf_lang::cell::Cell;
+use ecf_lang::receipt::{Entry, Receipt, Stop};
+use ecf_lang::run::{Outcome, Run, Step};
+use ecf_lang::tx::{Tx, TxRef};
 use ecf_lang::typed::Typed;
-use ecf_receipts::print_journal;
-use ecf_verdicts::{single_approved, vetoed_where_not_free};
-use sqlite_items::Items;
+use ecf_laws::{ends_with_writes, fuel_within_limit, steps_are_charged};
+use ecf_machine::run;
+use ecf_receipts::{print_entries, print_head, print_tail};
+use ecf_verdicts::along_places;
 use std::alloc::{AllocError, Global};
-use std::sync::Arc;
 
-/// The text of the journal of a transaction, run on the contract's initial fields.
-#[tactic(auto, using(crate::proofs::JournalLaws::one_invocation, crate::proofs::JournalLaws::journal_is))]
-pub fn journal_of(alloc: Global, typed: &Typed, tx: Tx) -> Result<Vec<u8>, AllocError>
-    requires fits { Fits typed.now tx }
-    requires one_call { length tx.calls ≡ 1 }
-    requires built { IsBuilt typed.now }
+/// The text of the journal of transactions that run in this order, from the contract's initial fields, with the stop at
+/// which reading them ended early.
+pub fn journal_of(
+    alloc: Global,
+    typed: &Typed,
+    txs: &[TxRef],
+    stop: Option<Stop>,
+) -> Result<Vec<u8>, AllocError>
     requires limits { IsWithinLimits typed.now }
-    ensures { IfOk result (λ text. IsJournal 1 typed.now (tx ∷ []) None text.items) }
+    requires fits { All (Fits typed.now) (map arc_value txs.now) }
+    requires few { length txs.now ≤ MAX_TRANSACTIONS }
+    ensures { IfOk result (λ text.
+        text.items ≡ text_along 2 typed.now (map arc_value txs.now) (places (map arc_value txs.now)) stop) }
 {
-    steps_are_of_the_first_invocation();
-    single_approved();
-    vetoed_where_not_free();
+    along_places();
     let mut fields = genesis(alloc, typed)?;
-    let run = run(alloc, typed, &fields, &tx)?;
-    fields.write(run.writes.as_slice())?;
-    let entry = Entry {
-        row: 0,
-        receipt: receipt(alloc, &run),
-    };
+    let entries = settle_all(alloc, typed, &mut fields, txs)?;
     let cells = fields.cells(alloc)?;
-    let txs = [Arc::new(alloc, tx)?];
-    print_journal(alloc, typed, &txs, &[entry], None, cells.as_slice())
+    print(
+        alloc,
+        typed,
+        txs,
+        entries.as_slice(),
+        stop,
+        cells.as_slice(),
+    )
 }
 
-// The receipt of a run of one invocation, which does no harm.
-#[tactic(auto, using(crate::proofs::JournalLaws::committed))]
-fn receipt(alloc: Global, run: &Run) -> Receipt
-    requires { All (λ s. s.inv ≡ 0) run.now.steps }
-    ensures { result ≡ receipt_of run.now.outcome run.now.fuel run.now.steps }
+// Runs transactions in their order, on fields that their commits change. Their rows count from 0.
+fn settle_all(
+    alloc: Global,
+    typed: &Typed,
+    fields: &mut Heap,
+    txs: &[TxRef],
+) -> Result<Vec<Entry>, AllocError>
+    requires limits { IsWithinLimits typed.now }
+    requires fits { All (Fits typed.now) (map arc_value txs.now) }
+    requires few { length txs.now ≤ MAX_TRANSACTIONS }
+    ensures { IfOk result (λ entries. HasSettled typed.now fields.old (map arc_value txs.now) entries.items fields.new) }
 {
-    single_approved();
+    let mut entries = Vec::with_capacity(alloc, txs.len())?;
+    for (row, tx) in txs.iter().enumerate() {
+        let receipt = settle(alloc, typed, fields, tx)?;
+        entries.push(Entry {
+            row: row as u32,
+            receipt,
+        })?;
+    }
+    Ok(entries)
+}
+
+// Runs a transaction on the fields, which change where it commits.
+fn settle(alloc: Global, typed: &Typed, fields: &mut Heap, tx: &Tx) -> Result<Receipt, AllocError>
+    requires limits { IsWithinLimits typed.now }
+    requires fits { Fits typed.now tx.now }
+    ensures receipt { IfOk result (λ receipt. receipt ≡ receipt_on typed.now fields.old tx.now) }
+    ensures fields { OnOk result (fields.new ≡ next_store typed.now fields.old tx.now) }
+{
+    steps_are_charged();
+    fuel_within_limit();
+    ends_with_writes();
+    let run = run(alloc, typed, fields, tx)?;
+    let receipt = receipt_of(alloc, &run)?;
+    commit(fields, &receipt, run.writes.as_slice())?;
+    Ok(receipt)
+}
+
+// Writes what a committed run wrote, and nothing for any other receipt.
+fn commit(fields: &mut Heap, receipt: &Receipt, writes: &[(Cell, u128)]) -> Result<(), AllocError>
+    ensures { OnOk result (fields.new ≡ store_after receipt.now fields.old (with_writes fields.old writes.now)) }
+{
+    match receipt {
+        Receipt::Committed { .. } => fields.write(writes),
+        _ => Ok(()),
+    }
+}
+
+// The receipt of a run; only one that answered is judged.
+fn receipt_of(alloc: Global, run: &Run) -> Result<Receipt, AllocError>
+    requires { length run.now.steps ≤ MAX_STEPS }
+    ensures { IfOk result (λ receipt. receipt ≡ receipt_of run.now.outcome run.now.fuel run.now.steps) }
+{
     match run.outcome {
-        Outcome::Answer(answer) => Receipt::Committed {
-            answer,
-            fuel: run.fuel,
-            orders: Items::new(alloc),
-        },
-        Outcome::Reverted(cause) => Receipt::Reverted {
+        Outcome::Answer(answer) => receipt_of_answer(alloc, answer, run.fuel, run.steps.as_slice()),
+        Outcome::Reverted(cause) => Ok(Receipt::Reverted {
             cause,
             fuel: run.fuel,
-        },
-        Outcome::OutOfFuel => Receipt::OutOfFuel { fuel: run.fuel },
+        }),
+        Outcome::OutOfFuel => Ok(Receipt::OutOfFuel { fuel: run.fuel }),
     }
+}
+
+// The receipt of a run that answered: committed with its orders, or vetoed.
+fn receipt_of_answer(
+    alloc: Global,
+    answer: u128,
+    fuel: u32,
+    steps: &[Step],
+) -> Result<Receipt, AllocError>
+    requires { length steps.now ≤ MAX_STEPS }
+    ensures { IfOk result (λ receipt. receipt ≡ receipt_of_answer answer fuel (verdict steps.now)) }
+{
+    match judge(alloc, steps)? {
+        Verdict::Approved(orders) => Ok(Receipt::Committed {
+            answer,
+            fuel,
+            orders,
+        }),
+        Verdict::Vetoed { object, at, cycle } => Ok(Receipt::Vetoed {
+            object,
+            at,
+            cycle,
+            fuel,
+        }),
+    }
+}
+
+// The text of a journal: its head, its entries and what stands behind them.
+fn print(
+    alloc: Global,
+    typed: &Typed,
+    txs: &[TxRef],
+    entries: &[Entry],
+    stop: Option<Stop>,
+    cells: &[(Cell, u128)],
+) -> Result<Vec<u8>, AllocError>
+    ensures { IfOk result (λ text. text.items ≡ journal_text 2 typed.now (map arc_value txs.now) entries.now stop cells.now) }
+{
+    let mut text = print_head(alloc)?;
+    text.append(&mut print_entries(alloc, typed, txs, entries, 0)?)?;
+    text.append(&mut print_tail(alloc, typed, stop, cells)?)?;
+    Ok(text)
 }

@@ -1,8 +1,9 @@
 //! Why nothing was run: a status and a note for each cause.
 
 ghost use Rattle.std.specs.Prelude.{◌≡◌, IfOk, string_bytes};
-ghost use Rattle.ecf_host.specs.Refusals.{status_of, note_of};
+ghost use Rattle.ecf_host.specs.Refusals.{status_of, note_of, type_note, word_of};
 
+use ecf_faults::What;
 use std::alloc::{AllocError, Global};
 
 /// A cause why nothing was run.
@@ -22,16 +23,12 @@ pub enum Refusal {
     Syntax { token: u32 },
     /// This token of the contract file is the first nested too deep.
     TooDeep { token: u32 },
-    /// The contract is not of the kind that can be run so far.
-    Unbuilt,
-    /// The stream isn't one transaction of the kind that can be read so far.
-    StreamUnbuilt,
+    /// This token of the contract file has the first fault of names and types.
+    Typing { token: u32, what: What },
     /// There is no contract file of that name.
     Missing,
     /// The contract file can't be opened, or a read of it failed.
     ReadFault,
-    /// A read of the stream failed.
-    StreamReadFault,
 }
 
 impl Refusal {
@@ -47,9 +44,8 @@ impl Refusal {
             | Refusal::TooManyTokens { .. }
             | Refusal::Syntax { .. }
             | Refusal::TooDeep { .. }
-            | Refusal::Unbuilt => 2,
-            Refusal::StreamUnbuilt => 3,
-            Refusal::Missing | Refusal::ReadFault | Refusal::StreamReadFault => 4,
+            | Refusal::Typing { .. } => 2,
+            Refusal::Missing | Refusal::ReadFault => 4,
         }
     }
 
@@ -67,11 +63,41 @@ impl Refusal {
             }
             Refusal::Syntax { token } => format!(in alloc; "contract token {token}: syntax\n"),
             Refusal::TooDeep { token } => format!(in alloc; "contract token {token}: too deep\n"),
-            Refusal::Unbuilt => String::from_str(alloc, "contract: unbuilt\n"),
-            Refusal::StreamUnbuilt => String::from_str(alloc, "stream: unbuilt\n"),
+            Refusal::Typing { token, what } => type_note(alloc, token, what),
             Refusal::Missing => String::from_str(alloc, "contract: missing\n"),
             Refusal::ReadFault => String::from_str(alloc, "contract: read fault\n"),
-            Refusal::StreamReadFault => String::from_str(alloc, "stream: read fault\n"),
         }
+    }
+}
+
+// The note of a fault of names and types.
+fn type_note(alloc: Global, token: u32, what: What) -> Result<String, AllocError>
+    ensures { IfOk result (λ note. string_bytes note ≡ type_note token what) }
+{
+    let mut note = format!(in alloc; "contract token {token}: type ")?;
+    note.push_str(word(what))?;
+    note.push('\n')?;
+    Ok(note)
+}
+
+// The word for a kind of fault.
+fn word(what: What) -> &'static str
+    ensures { result.now ≡ word_of what }
+{
+    match what {
+        What::TwoObjects => "TwoObjects",
+        What::TwoFields => "TwoFields",
+        What::TwoMethods => "TwoMethods",
+        What::TwoLocals => "TwoLocals",
+        What::TwoSignatures => "TwoSignatures",
+        What::TwoKeys => "TwoKeys",
+        What::TooManyObjects => "TooManyObjects",
+        What::TooManyMembers => "TooManyMembers",
+        What::TooManyLocals => "TooManyLocals",
+        What::UnknownName => "UnknownName",
+        What::Misused => "Misused",
+        What::UnknownMethod => "UnknownMethod",
+        What::WrongArity => "WrongArity",
+        What::WrongType => "WrongType",
     }
 }

@@ -11,7 +11,7 @@ pub(crate) const COUNTER: &str =
 pub(crate) const LINE: &str = "1 Counter bump 100\n";
 
 pub(crate) const JOURNAL: &str =
-    "1 1.1 Counter bump 100 -> committed 1 fuel 14\nend\nCounter.n = 1\n";
+    "journal 2\n1 1.1 Counter bump 100 -> committed 1 fuel 14\nend\nCounter.n = 1\n";
 
 /// Which call fails, by its number from 1.
 #[derive(Clone, Copy)]

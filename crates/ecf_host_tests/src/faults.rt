@@ -36,19 +36,24 @@ fn cut_note(alloc: Global, len: usize) -> Result<String, AllocError> {
 #[test]
 fn stops_at_a_write_that_fails(rt: HostRuntime) -> Result<(), AllocError> {
     let text = ran(&rt, 8, Fails::Write(2))?;
-    assert_eq!(rt; text.as_str(), "5 out 1 1.1 Co note ");
+    assert_eq!(rt; text.as_str(), "5 out journal  note ");
     let text = ran_without(&rt, 8, Fails::Note(2))?;
     assert_eq!(rt; text.as_str(), "5 out  note contract");
     Ok(())
 }
 
-// One byte a read, so that the stream's end comes with the read behind its last byte, the 20th.
+// One byte a read: the line is whole with its 19th byte, and the stream's end comes with the 20th read.
 #[test]
-fn answers_at_each_read_that_fails(rt: HostRuntime) -> Result<(), AllocError> {
-    for number in 1..21 {
+fn stops_at_each_read_that_fails(rt: HostRuntime) -> Result<(), AllocError> {
+    for number in 1..20 {
         let text = ran(&rt, 1, Fails::Read(number))?;
-        assert_eq!(rt; text.as_str(), "4 out  note stream: read fault\n");
+        assert_eq!(rt; text.as_str(), "4 out journal 2\nstop 1 read\nend\n note ");
     }
+    let text = ran(&rt, 1, Fails::Read(20))?;
+    assert_eq!(rt;
+        text.as_str(),
+        "4 out journal 2\n1 1.1 Counter bump 100 -> committed 1 fuel 14\nstop 2 read\nend\nCounter.n = 1\n note "
+    );
     let due = told(rt.alloc(), 0, JOURNAL.as_bytes(), &[])?;
     for fails in [Fails::Read(21), Fails::Fetch(2)] {
         let text = ran(&rt, 1, fails)?;

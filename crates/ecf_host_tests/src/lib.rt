@@ -13,6 +13,8 @@ mod gates;
 #[cfg(test)]
 mod helpers;
 #[cfg(test)]
+mod journals;
+#[cfg(test)]
 mod refusals;
 #[cfg(test)]
 mod shelves;

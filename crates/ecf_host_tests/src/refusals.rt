@@ -1,4 +1,4 @@
-//! Journals, and what is told where nothing is run.
+//! A journal in any pieces, and what is told where nothing is run.
 
 use crate::calls::{COUNTER, Case, Fails, JOURNAL, LINE, called, counted, told};
 use ecf_lang::limits::MAX_CONTRACT_BYTES;
@@ -49,31 +49,6 @@ fn tells_why_nothing_was_run(rt: HostRuntime) -> Result<(), AllocError> {
             Fails::Fetch(1),
             "4 out  note contract: read fault\n",
         ),
-        ("c.ecf", "", Fails::Never, "3 out  note stream: unbuilt\n"),
-        (
-            "c.ecf",
-            "1 Counter jump 100\n",
-            Fails::Never,
-            "3 out  note stream: unbuilt\n",
-        ),
-        (
-            "c.ecf",
-            LINE,
-            Fails::Read(1),
-            "4 out  note stream: read fault\n",
-        ),
-        (
-            "c.ecf",
-            LINE,
-            Fails::Read(3),
-            "4 out  note stream: read fault\n",
-        ),
-        (
-            "c.ecf",
-            LINE,
-            Fails::Read(4),
-            "4 out  note stream: read fault\n",
-        ),
     ] {
         let text = ran(&rt, file, stream, fails)?;
         assert_eq!(rt; text.as_str(), want);
@@ -108,13 +83,62 @@ fn tells_why_a_contract_is_refused(rt: HostRuntime) -> Result<(), AllocError> {
             "2 out  note contract token 10: syntax\n",
         ),
         (DEEP, "2 out  note contract token 74: too deep\n"),
-        (
-            "object A { flag f; method m(): num { return 0; } }",
-            "2 out  note contract: unbuilt\n",
-        ),
     ] {
         let text = ran_over(&rt, contract, 0)?;
         assert_eq!(rt; text.as_str(), want);
+    }
+    Ok(())
+}
+
+#[test]
+fn tells_the_first_fault_of_names_and_types(rt: HostRuntime) -> Result<(), AllocError> {
+    for (contract, want) in [
+        ("object A { } object A { }", "5: type TwoObjects"),
+        ("object A { num x; flag x; }", "7: type TwoFields"),
+        (
+            "object A { method m(): num { } method m(): num { } }",
+            "12: type TwoMethods",
+        ),
+        (
+            "object A { method m(a: num): num { let a: num = 1; } }",
+            "14: type TwoLocals",
+        ),
+        (
+            "object A { method m(): num { } } object B { method m(n: num): num { } }",
+            "16: type TwoSignatures",
+        ),
+        (
+            "object A { map m: num -> num = { 1: 2, 01: 3 }; }",
+            "15: type TwoKeys",
+        ),
+        (
+            "object A { method m(a: num, b: num, c: num, d: num, e: num, f: num, g: num, h: num, i: num): num { } }",
+            "38: type TooManyLocals",
+        ),
+        (
+            "object A { method m(): num { return x; } }",
+            "11: type UnknownName",
+        ),
+        (
+            "object A { map m: num -> num; method g(): num { return m; } }",
+            "18: type Misused",
+        ),
+        (
+            "object A { method m(): num { return self.k(); } }",
+            "13: type UnknownMethod",
+        ),
+        (
+            "object A { method m(): num { return self.m(1); } }",
+            "13: type WrongArity",
+        ),
+        ("object A { num x = true; }", "6: type WrongType"),
+        // The first of several, and none before the tokens spell a tree.
+        ("object A { num x = true; num x = y; }", "6: type WrongType"),
+        ("object A { num x = true; } object", "10: syntax"),
+    ] {
+        let due = format!(in rt.alloc(); "2 out  note contract token {want}\n")?;
+        let text = ran_over(&rt, contract, 0)?;
+        assert_eq!(rt; text.as_str(), due.as_str());
     }
     Ok(())
 }

@@ -34,8 +34,6 @@ mod reports;
 #[cfg(test)]
 mod runs;
 #[cfg(test)]
-mod small;
-#[cfg(test)]
 mod stored;
 #[cfg(test)]
 mod stream_contract;

@@ -63,6 +63,11 @@ fn declarations_have_their_faults(rt: HostRuntime) -> Result<(), Fail> {
             What::TwoMethods,
             "object A { method m(): num { } method n(): num { } num m; method @n(): num { } }",
         ),
+        // Its types differ too.
+        (
+            What::TwoMethods,
+            "object A { method m(): num { } method @m(): flag { } }",
+        ),
         (
             What::TwoLocals,
             "object A { method m(p: num, @p: num): num { } }",
@@ -307,6 +312,9 @@ fn the_first_of_a_name_counts(rt: HostRuntime) -> Result<(), Fail> {
     Ok(())
 }
 
+// What stands before and behind the number in an object's name.
+const OBJECT: (&str, &str) = ("object A", " { } ");
+
 // A text, a part with a number in it so many times, and a text behind.
 fn repeated(
     alloc: Global,
@@ -327,7 +335,7 @@ fn repeated(
 #[test]
 fn one_more_than_a_limit_is_too_many(rt: HostRuntime) -> Result<(), Fail> {
     let alloc = rt.alloc();
-    let objects = ("", ("object A", " { } "), MAX_OBJECTS);
+    let objects = ("", OBJECT, MAX_OBJECTS);
     let fields = ("object O { ", ("num x", "; "), MAX_FIELDS);
     let methods = (
         "object P { method z(): flag { } } object O { ",
@@ -381,6 +389,40 @@ fn one_more_than_a_limit_is_too_many(rt: HostRuntime) -> Result<(), Fail> {
     for (what, (before, part, times), behind) in rows {
         let text = repeated(alloc, before, part, times, behind)?;
         expect(&rt, alloc, text.as_str(), what)?;
+    }
+    Ok(())
+}
+
+#[test]
+fn a_fault_is_told_in_the_first_object_and_in_the_last(rt: HostRuntime) -> Result<(), Fail> {
+    let alloc = rt.alloc();
+    let rows = [
+        (What::TwoFields, "num x; num @x; "),
+        (
+            What::TwoMethods,
+            "method m(): num { } method @m(): num { } ",
+        ),
+        (What::TwoLocals, "method m(p: num, @p: num): num { } "),
+        (What::TwoKeys, "map m: num -> num = { 1: 1, @1: 1 }; "),
+        (What::UnknownName, "addr a = @z; "),
+        (
+            What::Misused,
+            "map m: num -> num; method g(): num { return @m; } ",
+        ),
+        (
+            What::UnknownMethod,
+            "method m(): num { return call here.@z(); } ",
+        ),
+        (What::WrongArity, "method m(): num { return self.@m(1); } "),
+        (What::WrongType, "num x = @true; "),
+    ];
+    for (what, members) in rows {
+        let mut object = format!(in alloc; "object O {{ {members}")?;
+        object.push_str("} ")?;
+        let first = repeated(alloc, object.as_str(), OBJECT, MAX_OBJECTS - 1, "")?;
+        expect(&rt, alloc, first.as_str(), what)?;
+        let last = repeated(alloc, "", OBJECT, MAX_OBJECTS - 1, object.as_str())?;
+        expect(&rt, alloc, last.as_str(), what)?;
     }
     Ok(())
 }
