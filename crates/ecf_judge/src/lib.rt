@@ -5,8 +5,6 @@
 mod cycle;
 mod membership;
 mod object;
-#[cfg(test)]
-mod tests;
 mod traces;
 mod verdict;
 

@@ -8,8 +8,6 @@ mod pairs;
 mod reach;
 mod room;
 mod seen;
-#[cfg(test)]
-mod tests;
 mod watch;
 
 pub use limits::MAX_STEPS;
