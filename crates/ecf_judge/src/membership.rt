@@ -15,30 +15,18 @@ pub enum Membership {
     Several,
 }
 
-/// With one step more of an invocation.
-fn with_member(members: Membership, inv: u16) -> Membership
-    ensures { result ≡ with_member members inv }
+/// Takes in one step more of an invocation.
+fn take_in(members: &mut Membership, inv: u16)
+    ensures { members.new ≡ with_member members.old inv }
 {
-    match members {
-        Membership::Nobody => Membership::Only(inv),
+    match *members {
+        Membership::Nobody => *members = Membership::Only(inv),
         Membership::Only(first) => {
-            if first == inv {
-                members
-            } else {
-                Membership::Several
+            if first != inv {
+                *members = Membership::Several;
             }
         }
-        Membership::Several => Membership::Several,
-    }
-}
-
-/// Whether one step more of an invocation changes nothing, since no other has steps.
-fn is_only(members: Membership, inv: u16) -> bool
-    ensures { result ≡ true → with_member members inv ≡ members }
-{
-    match members {
-        Membership::Only(first) => first == inv,
-        _ => false,
+        Membership::Several => {}
     }
 }
 
@@ -49,10 +37,7 @@ pub fn memberships(steps: &[Step]) -> [Membership; MAX_OBJECTS]
 {
     let mut table = [Membership::Nobody; MAX_OBJECTS];
     for step in steps {
-        let at = step.cell.object as usize;
-        if !is_only(table[at], step.inv) {
-            table[at] = with_member(table[at], step.inv);
-        }
+        take_in(&mut table[step.cell.object as usize], step.inv);
     }
     table
 }

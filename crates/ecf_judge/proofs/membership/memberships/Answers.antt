@@ -2,8 +2,7 @@ use Rattle.std.proofs.Common.{◌<◌, length, get_or, length-set, refl, ap, ◌
 use Rattle.std.proofs.lemmas.List.{take_all}
 use Rattle.ecf_judge.specs.Membership.{membership}
 use Rattle.ecf_verdicts.specs.Traces.{trace}
-use Rattle.ecf_judge.proofs.TraceLaws.{table_none, table_at, kept_at, zero_step}
-use Rattle.ecf_judge.proofs.membership.memberships.Goals.{then-not-is_only, else-not-is_only}
+use Rattle.ecf_judge.proofs.TraceLaws.{table_none, table_at, zero_step}
 use Rattle.ecf_judge.proofs.membership.memberships.Goals as goal
 
 pub loop-step-init : goal.loop-step-init
@@ -15,16 +14,10 @@ loop-step-preserved c =
     let k = c.loop-step.step-index in
     let inside : k < length steps = omega arith in
     let taken : (get_or steps k zero_step).cell.object < length c.loop-step.table = search rules in
-    elim c.if-not-is_only.branch [
-      | then-not-is_only w ↦ rw w.table-is (record {
-        long = length-set _ _ _ ∙ c.loop-step.invariant.long;
-        tells = table_at steps k zero_step c.loop-step.table w.with_member.result inside taken c.loop-step.invariant.tells w.with_member.ensures;
-      })
-      | else-not-is_only w ↦ rw w.table-is (record {
-        long = c.loop-step.invariant.long;
-        tells = kept_at steps k zero_step c.loop-step.table inside (c.is_only.ensures w.if-not-is_only.false) c.loop-step.invariant.tells;
-      })
-    ]
+    record {
+      long = length-set _ _ _ ∙ c.loop-step.invariant.long;
+      tells = table_at steps k zero_step c.loop-step.table c.take_in.new.members inside taken c.loop-step.invariant.tells ?;
+    }
 
 pub returns-clause-tells : goal.returns-clause-tells
 returns-clause-tells c o = c.loop-step.invariant.tells o ∙ ap (λ u. membership (trace u o)) (take_all c.loop-step.step-index c.args.steps.now (omega arith))
