@@ -1,6 +1,7 @@
 -- Who has steps, step by step, and what it says of the members.
-use Rattle.std.proofs.Common.{◌≡◌, ℕ, ◌<◌, ◌≤◌, List, [], ◌∷◌, ◌++◌, length, ◌⊎◌, inl, inr, true, refl, sym, ap, ◌∙◌, arith}
-use Rattle.std.proofs.lemmas.Bool.{cases_eq, eq-eqb, ne_eqb}
+use Rattle.std.proofs.Common.{◌≡◌, ℕ, ◌<◌, ◌≤◌, ◌==◌, List, [], ◌∷◌, ◌++◌, length, ◌⊎◌, inl, inr, Bool, true, false, cond, refl, sym, ap, ◌∙◌, arith}
+use Rattle.std.specs.List.{list_all}
+use Rattle.std.proofs.lemmas.Bool.{cases_eq, and_parts, eq-eqb, eqb-true, ne_eqb}
 use Rattle.ecf_judge.specs.Membership.{with_member, membership_from, membership}
 use Rattle.ecf_judge.specs.declared.membership.Membership.{Membership}
 use Rattle.ecf_judge.specs.declared.membership.Membership.TheVariants.{Nobody, Only, Several}
@@ -9,7 +10,7 @@ use Rattle.ecf_verdicts.specs.Cycles.{is_placed}
 use Rattle.ecf_verdicts.specs.Laws.{MembersAre, SingleFree, TestTellsFree}
 use Rattle.ecf_verdicts.specs.ListLemmas.{Each, Has, In, Each_at, Has_in, All_from_Each, Any_from_Has, Has_from_Any, Contains_from_In, In_from_Contains}
 use Rattle.ecf_verdicts.specs.RisingLemmas.{Rising, rising_from}
-use Rattle.ecf_verdicts.specs.Traces.{members}
+use Rattle.ecf_verdicts.specs.Traces.{members, trace}
 
 -- one step more
 pub from_next : (m : Membership) (t : List Step) (s : Step) → membership_from m (t ++ s ∷ []) ≡ with_member (membership_from m t) s.inv
@@ -101,3 +102,46 @@ few_placed single tells (s ∷ t) n = elim (only_cases t s.inv) [
   | inl h ↦ (tells (s ∷ t)).0.1 (single (s ∷ t) s.inv (All_from_Each (λ (u : Step). u.inv ≡ s.inv) (s ∷ t) (refl, h.1)))
   | inr h ↦ absurd (n h.0)
 ]
+
+-- nobody, or i alone
+abbrev FewAre : ℕ → Membership → Type 0
+FewAre i m = (m ≡ Nobody) ⊎ (m ≡ Only i)
+
+few_with : (i : ℕ) (m : Membership) (j : ℕ) → j ≡ i → FewAre i m → FewAre i (with_member m j)
+unfolding with_member
+few_with i m j e (inl h) = inr (rw h (ap Only e))
+few_with i m j e (inr h) = inr (rw (h, eq-eqb i j (sym e)) refl)
+
+few_all : (steps : List Step) (i o : ℕ) (m : Membership) → list_all (λ (s : Step). s.inv == i) steps ≡ true → FewAre i m → FewAre i (membership_from m (trace steps o))
+unfolding trace membership_from
+few_all [] i o m e h = h
+few_all (s ∷ rest) i o m e h =
+    let p = and_parts _ _ e in
+    go (s.cell.object == o) (few_all rest i o m p.1 h) (few_all rest i o (with_member m s.inv) p.1 (few_with i m s.inv (eqb-true s.inv i p.0) h))
+  where
+    go : (b : Bool) → FewAre i (membership_from m (trace rest o)) → FewAre i (membership_from (with_member m s.inv) (trace rest o)) → FewAre i (membership_from m (cond b (s ∷ trace rest o) (trace rest o)))
+    go true without with_it = with_it
+    go false without with_it = without
+
+pub nobody_several : (m : Membership) → m ≡ Nobody → m ≡ Several → ⊥
+nobody_several m e f = cc
+
+-- where all steps are of one invocation no object has several
+pub all_one : (steps : List Step) (i : ℕ) → list_all (λ (s : Step). s.inv == i) steps ≡ true → (o : ℕ) → membership (trace steps o) ≡ Several → ⊥
+all_one steps i h o e = elim (few_all steps i o Nobody h (inl refl)) [
+  | inl f ↦ nobody_several _ f e
+  | inr f ↦ only_several i _ f e
+]
+
+pub all_none : (steps : List Step) (i : ℕ) → length steps < 1 → list_all (λ (s : Step). s.inv == i) steps ≡ true
+all_none [] i h = refl
+all_none (s ∷ rest) i h = absurd (omega (arith, h))
+
+-- a member once more tells nothing new
+pub again_only : (m : Membership) (i inv : ℕ) → m ≡ Only i → (i == inv) ≡ true → with_member m inv ≡ m
+unfolding with_member
+again_only m i inv e same = rw (e, same) refl
+
+pub again_several : (m : Membership) (inv : ℕ) → m ≡ Several → with_member m inv ≡ m
+unfolding with_member
+again_several m inv e = rw e refl

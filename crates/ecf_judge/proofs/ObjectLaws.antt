@@ -137,6 +137,15 @@ settled_few are single tells steps n os few s = elim (cases_Bool (has_steps step
   }
 ]
 
+-- objects without several invocations change nothing
+pub settled_rest : MembersAre → SingleFree → TestTellsFree → (steps : List Step) (n m : ℕ) (os : List Order) → n ≤ m → ((o : ℕ) → membership (trace steps o) ≡ Several → o < n) →
+    SettledBelow steps n os → SettledBelow steps m os
+settled_rest are single tells steps n zero os h few s = subst (λ k. SettledBelow steps k os) (let z : n ≡ 0 = omega (arith, h) in z) s
+settled_rest are single tells steps n (suc m) os h few s = elim (cases_lt m n) [
+  | inl l ↦ subst (λ k. SettledBelow steps k os) (let z : n ≡ suc m = omega (arith, h, l) in z) s
+  | inr g ↦ settled_few are single tells steps m os (λ e. (let l = few m e in omega (arith, l, g))) (settled_rest are single tells steps n m os g few s)
+]
+
 no_members : (t : List Step) → t ≡ [] → length (members t) ≡ 0
 unfolding members
 no_members t e = rw e refl
@@ -167,6 +176,22 @@ unfolding vetoed_object
 settled_all steps n os all s =
     let none : vetoed_object steps ≡ None = ap (find (is_bad steps)) (sym all) ∙ s.none_bad in
     ap Approved (s.orders_are ∙ ap (orders steps) all) ∙ sym (approved steps none)
+
+-- the verdict where no object has several
+none_found : (q : ℕ → Bool) (xs : List ℕ) → ((x : ℕ) → q x ≡ false) → find q xs ≡ None
+none_found q [] f = refl
+none_found q (x ∷ xs) f = rw (f x) (none_found q xs f)
+
+no_orders : (steps : List Step) (xs : List ℕ) → ((o : ℕ) → length (members (trace steps o)) ≤ 1) → orders steps xs ≡ []
+unfolding orders
+no_orders steps [] few = refl
+no_orders steps (x ∷ xs) few = rw (le-ltb 1 (length (members (trace steps x))) (few x)) (no_orders steps xs few)
+
+pub approved_few : MembersAre → SingleFree → TestTellsFree → (steps : List Step) (os : List Order) → os ≡ [] → ((o : ℕ) → membership (trace steps o) ≡ Several → ⊥) → Approved os ≡ verdict steps
+unfolding vetoed_object
+approved_few are single tells steps os e few =
+    let none : vetoed_object steps ≡ None = none_found (is_bad steps) (objects steps) (λ o. ap not (few_placed single tells (trace steps o) (few o))) in
+    ap Approved (e ∙ sym (no_orders steps (objects steps) (λ o. few_members are (trace steps o) (few o)))) ∙ sym (approved steps none)
 
 found_later : (steps : List Step) (p : ℕ → Bool) (x n m : ℕ) → n ≤ m → find (is_bad steps) (numbers_below p n) ≡ Some x → find (is_bad steps) (numbers_below p m) ≡ Some x
 unfolding numbers_below

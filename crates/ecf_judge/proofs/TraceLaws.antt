@@ -1,5 +1,6 @@
 -- Tables and traces with one step more.
-use Rattle.std.proofs.Common.{◌≡◌, ℕ, zero, suc, ◌+◌, ◌<◌, false, cond, ◌==◌, List, [], ◌∷◌, ◌++◌, length, get_or, slice_set, take, replicate, inl, inr, refl, sym, ap, ◌∙◌, subst, arith, add-one, get_or-set_other, get_or-set_same}
+use Rattle.std.proofs.Common.{◌≡◌, ℕ, zero, suc, ◌+◌, ◌<◌, ◌≤◌, Bool, true, false, cond, ◌&&◌, ◌==◌, List, [], ◌∷◌, ◌++◌, length, get_or, slice_set, take, drop, drop-cons, replicate, inl, inr, refl, sym, ap, ◌∙◌, subst, arith, add-one, get_or-set_other, get_or-set_same}
+use Rattle.std.specs.List.{list_all}
 use Rattle.std.proofs.lemmas.Bool.{cases_eq, eq-eqb, ne_eqb}
 use Rattle.std.proofs.lemmas.List.{append-nil}
 use Rattle.std.proofs.lemmas.List.Elements.{filter-append}
@@ -8,7 +9,7 @@ use Rattle.ecf_judge.specs.declared.membership.Membership.{Membership}
 use Rattle.ecf_judge.specs.declared.membership.Membership.TheVariants.{Nobody, Several}
 use Rattle.ecf_lang.specs.declared.run.Step.{Step}
 use Rattle.ecf_verdicts.specs.Traces.{trace}
-use Rattle.ecf_judge.proofs.MembershipLaws.{from_next}
+use Rattle.ecf_judge.proofs.MembershipLaws.{from_next, nobody_several}
 
 -- what is read where no step is
 abbrev pub zero_step : Step
@@ -112,3 +113,35 @@ empty_next (t ∷ traces) v e none (suc o) = empty_next traces v e (λ p. none (
 
 pub empty_all : (traces : List (List Step)) → traces ≡ [] → (o : ℕ) → get_or traces o [] ≡ []
 empty_all traces e o = rw e refl
+
+-- objects with several are below a number
+abbrev pub SeveralBelow : List Membership → ℕ → Type 0
+SeveralBelow table n = (o : ℕ) → get_or table o Nobody ≡ Several → o < n
+
+pub below_next : (table : List Membership) (at : ℕ) (m : Membership) (n n' : ℕ) → at < length table → n ≤ n' → (m ≡ Several → at < n') → SeveralBelow table n → SeveralBelow (slice_set table at m) n'
+below_next table at m n n' h longer several below o e = elim (cases_eq o at) [
+  | inl same ↦
+      let is : m ≡ Several = sym (get_or-set_same table at m Nobody h) ∙ (ap (λ x. get_or (slice_set table at m) x Nobody) (sym same) ∙ e) in
+      let l = several is in omega (arith, l, same)
+  | inr apart ↦ (let l = below o (sym (get_or-set_other table at o m Nobody apart) ∙ e) in omega (arith, l, longer))
+]
+
+-- before any step there are none
+all_nobody : (n o : ℕ) → get_or (replicate n Nobody) o Nobody ≡ Nobody
+all_nobody zero o = refl
+all_nobody (suc n) zero = refl
+all_nobody (suc n) (suc o) = all_nobody n o
+
+pub below_none : (n : ℕ) → SeveralBelow (replicate n Nobody) 0
+below_none n o e = absurd (nobody_several _ (all_nobody n o) e)
+
+-- where none is below 0 no object has several, and no traces are asked for
+pub traces_zero : (t : List Step) (table : List Membership) (n : ℕ) (traces : List (List Step)) → n ≡ 0 → SeveralBelow table n → TracesAre t table traces
+traces_zero t table n traces e below o several = absurd (let l = below o several in omega (arith, l, e))
+
+-- a test along a list, a place at a time
+pub all_fails : {X : Type 0} (f : X → Bool) (xs : List X) (k : ℕ) (d : X) → k < length xs → f (get_or xs k d) ≡ false → list_all f (drop k xs) ≡ false
+all_fails f xs k d h e = ap (λ l. list_all f l) (drop-cons xs k d h) ∙ ap (λ b. b && list_all f (drop (suc k) xs)) e
+
+pub all_skip : {X : Type 0} (f : X → Bool) (xs : List X) (k : ℕ) (d : X) → k < length xs → f (get_or xs k d) ≡ true → list_all f (drop (k + 1) xs) ≡ list_all f (drop k xs)
+all_skip f xs k d h e = ap (λ n. list_all f (drop n xs)) (add-one k) ∙ sym (ap (λ l. list_all f l) (drop-cons xs k d h) ∙ ap (λ b. b && list_all f (drop (suc k) xs)) e)

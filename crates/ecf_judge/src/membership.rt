@@ -1,7 +1,9 @@
 //! On which objects several invocations have steps, told by one pass over the steps.
 
-ghost use Rattle.std.specs.Prelude.{◌≡◌, ◌<◌, ℕ, true, false, length, slice_index_or};
+ghost use Rattle.std.specs.Prelude.{◌≡◌, ◌==◌, ◌≤◌, ◌<◌, ℕ, true, false, length, slice_index_or};
+ghost use Rattle.std.specs.List.{list_all};
 ghost use Rattle.ecf_judge.specs.Membership.{membership, with_member};
+ghost use Rattle.ecf_lang.specs.declared.run.Step.{Step};
 ghost use Rattle.ecf_verdicts.specs.Traces.{trace};
 
 use ecf_lang::limits::MAX_OBJECTS;
@@ -15,31 +17,99 @@ pub enum Membership {
     Several,
 }
 
-/// Takes in one step more of an invocation.
-fn take_in(members: &mut Membership, inv: u16)
-    ensures { members.new ≡ with_member members.old inv }
+/// Who has steps on each object.
+#[derive(Drop)]
+pub struct Memberships {
+    /// For each object.
+    pub table: [Membership; MAX_OBJECTS],
+    /// A number above the objects on which several have steps.
+    pub above: usize,
+    ghost long: { length table ≡ MAX_OBJECTS },
+    ghost several_below: { (o : ℕ) → slice_index_or table o Membership.Nobody ≡ Membership.Several → o < above },
+    ghost few: { above ≤ MAX_OBJECTS },
+}
+
+/// Whether all steps are of an invocation.
+fn all_of(steps: &[Step], inv: u16) -> bool
+    ensures { result ≡ list_all (λ (s : Step). s.inv == inv) steps.now }
 {
-    match *members {
-        Membership::Nobody => *members = Membership::Only(inv),
-        Membership::Only(first) => {
-            if first != inv {
-                *members = Membership::Several;
-            }
+    for step in steps {
+        if step.inv != inv {
+            return false;
         }
-        Membership::Several => {}
+    }
+    true
+}
+
+/// Whether no two steps are of different invocations; then no object has several.
+pub fn is_of_one(steps: &[Step]) -> bool
+    ensures { result ≡ true → (o : ℕ) → membership (trace steps.now o) ≡ Membership.Several → ⊥ }
+{
+    match steps {
+        [] => true,
+        [first, ..] => all_of(steps, first.inv),
     }
 }
 
-/// For each object who has steps on it.
-pub fn memberships(steps: &[Step]) -> [Membership; MAX_OBJECTS]
-    ensures tells { (o : ℕ) → slice_index_or result o Membership.Nobody ≡ membership (trace steps.now o) }
-    ensures long { length result ≡ MAX_OBJECTS }
+/// Whether a step more of an invocation tells nothing new.
+fn is_known(members: Membership, inv: u16) -> bool
+    ensures { result ≡ true → with_member members inv ≡ members }
+{
+    match members {
+        Membership::Nobody => false,
+        Membership::Only(first) => first == inv,
+        Membership::Several => true,
+    }
+}
+
+/// A number above the object too, where it has several.
+fn above_with(above: usize, members: Membership, object: usize) -> usize
+    requires { object < MAX_OBJECTS }
+    ensures longer { above ≤ result }
+    ensures several { members ≡ Membership.Several → object < result }
+    ensures few { above ≤ MAX_OBJECTS → result ≤ MAX_OBJECTS }
+{
+    match members {
+        Membership::Nobody => above,
+        Membership::Only(_) => above,
+        Membership::Several => above.max(object + 1),
+    }
+}
+
+/// With one step more of an invocation.
+fn with_step(members: Membership, inv: u16) -> Membership
+    ensures { result ≡ with_member members inv }
+{
+    match members {
+        Membership::Nobody => Membership::Only(inv),
+        Membership::Only(first) => {
+            if first == inv {
+                members
+            } else {
+                Membership::Several
+            }
+        }
+        Membership::Several => Membership::Several,
+    }
+}
+
+/// For each object who has steps on it, and a number above the objects on which several have. A step that tells nothing
+/// new costs a look.
+pub fn memberships(steps: &[Step]) -> Memberships
+    ensures { (o : ℕ) → slice_index_or result.table o Membership.Nobody ≡ membership (trace steps.now o) }
 {
     let mut table = [Membership::Nobody; MAX_OBJECTS];
+    let mut above = 0;
     for step in steps {
-        take_in(&mut table[step.cell.object as usize], step.inv);
+        let object = step.cell.object as usize;
+        let members = table[object];
+        if !is_known(members, step.inv) {
+            let more = with_step(members, step.inv);
+            table[object] = more;
+            above = above_with(above, more, object);
+        }
     }
-    table
+    Memberships { table, above }
 }
 
 /// Whether several invocations have steps on an object.
@@ -52,16 +122,4 @@ pub fn is_several(table: &[Membership], object: usize) -> bool
     } else {
         false
     }
-}
-
-/// Whether some object has several.
-pub fn any_several(table: &[Membership]) -> bool
-    ensures { result ≡ false → (o : ℕ) → slice_index_or table.now o Membership.Nobody ≡ Membership.Several → ⊥ }
-{
-    for object in 0..table.len() {
-        if is_several(table, object) {
-            return true;
-        }
-    }
-    false
 }

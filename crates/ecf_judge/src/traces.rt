@@ -4,8 +4,7 @@ ghost use Rattle.std.specs.Prelude.{◌≡◌, ◌<◌, ℕ, List, [], length, s
 ghost use Rattle.ecf_judge.specs.Membership.{TracesAre};
 ghost use Rattle.ecf_verdicts.specs.Traces.{trace};
 
-use crate::membership::{Membership, any_several, is_several};
-use ecf_lang::limits::MAX_OBJECTS;
+use crate::membership::{Memberships, is_several};
 use ecf_lang::run::Step;
 use sqlite_items::Items;
 use std::alloc::{AllocError, Global};
@@ -22,32 +21,32 @@ fn empty_traces(alloc: Global, count: usize) -> Result<Vec<Items<Step>>, AllocEr
     Ok(traces)
 }
 
-/// For each object with several invocations its trace; no traces at all where there is no such object.
+/// For each object with several invocations its trace, and no list for an object above them all.
 pub fn gather(
     alloc: Global,
     steps: &[Step],
-    table: &[Membership],
+    members: &Memberships,
 ) -> Result<Vec<Items<Step>>, AllocError>
-    ensures { IfOk result (λ v. TracesAre steps.now table.now v.items) }
+    ensures { IfOk result (λ v. TracesAre steps.now members.now.table v.items) }
 {
-    if !any_several(table) {
+    if members.above == 0 {
         return Ok(Vec::new(alloc));
     }
-    gather_several(alloc, steps, table)
+    gather_several(alloc, steps, members)
 }
 
 /// The same by a pass over the steps.
 fn gather_several(
     alloc: Global,
     steps: &[Step],
-    table: &[Membership],
+    members: &Memberships,
 ) -> Result<Vec<Items<Step>>, AllocError>
-    ensures { IfOk result (λ v. TracesAre steps.now table.now v.items) }
+    ensures { IfOk result (λ v. TracesAre steps.now members.now.table v.items) }
 {
-    let mut traces = empty_traces(alloc, MAX_OBJECTS)?;
+    let mut traces = empty_traces(alloc, members.above)?;
     for step in steps {
         let at = step.cell.object as usize;
-        if is_several(table, at) {
+        if is_several(&members.table, at) {
             traces[at].push(*step)?;
         }
     }

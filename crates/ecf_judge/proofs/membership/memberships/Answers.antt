@@ -2,22 +2,38 @@ use Rattle.std.proofs.Common.{◌<◌, length, get_or, length-set, refl, ap, ◌
 use Rattle.std.proofs.lemmas.List.{take_all}
 use Rattle.ecf_judge.specs.Membership.{membership}
 use Rattle.ecf_verdicts.specs.Traces.{trace}
-use Rattle.ecf_judge.proofs.TraceLaws.{table_none, table_at, zero_step}
+use Rattle.ecf_judge.proofs.TraceLaws.{below_next, below_none, kept_at, table_none, table_at, zero_step}
+use Rattle.ecf_judge.proofs.membership.memberships.Goals.{then-not-is_known, else-not-is_known}
 use Rattle.ecf_judge.proofs.membership.memberships.Goals as goal
 
 pub loop-step-init : goal.loop-step-init
-loop-step-init c = record { long = refl; tells = λ o. table_none 256 o }
+loop-step-init c = record { long = refl; tells = λ o. table_none 256 o; several = below_none 256; few = omega arith }
 
 pub loop-step-preserved : goal.loop-step-preserved
 loop-step-preserved c =
     let steps = c.args.steps.now in
     let k = c.loop-step.step-index in
+    let table = c.loop-step.table in
+    let at = (get_or steps k zero_step).cell.object in
     let inside : k < length steps = omega arith in
-    let taken : (get_or steps k zero_step).cell.object < length c.loop-step.table = search rules in
-    record {
-      long = length-set _ _ _ ∙ c.loop-step.invariant.long;
-      tells = table_at steps k zero_step c.loop-step.table c.take_in.new.members inside taken c.loop-step.invariant.tells ?;
-    }
+    let taken : at < length table = search rules in
+    elim c.if-not-is_known.branch [
+      | then-not-is_known w ↦ rw (w.table-is, w.above-is) (record {
+        long = length-set _ _ _ ∙ c.loop-step.invariant.long;
+        tells = table_at steps k zero_step table w.with_step-more.result inside taken c.loop-step.invariant.tells ?;
+        several = below_next table at w.with_step-more.result c.loop-step.above w.above_with.result taken w.above_with.ensures.longer w.above_with.ensures.several c.loop-step.invariant.several;
+        few = w.above_with.ensures.few c.loop-step.invariant.few;
+      })
+      | else-not-is_known w ↦ rw (w.table-is, w.above-is) (record {
+        long = c.loop-step.invariant.long;
+        tells = kept_at steps k zero_step table inside ? c.loop-step.invariant.tells;
+        several = c.loop-step.invariant.several;
+        few = c.loop-step.invariant.few;
+      })
+    ]
 
-pub returns-clause-tells : goal.returns-clause-tells
-returns-clause-tells c o = c.loop-step.invariant.tells o ∙ ap (λ u. membership (trace u o)) (take_all c.loop-step.step-index c.args.steps.now (omega arith))
+pub invariant_of-result : goal.invariant_of-result
+invariant_of-result c = record { long = c.loop-step.invariant.long; several_below = c.loop-step.invariant.several; few = c.loop-step.invariant.few }
+
+pub returns : goal.returns
+returns c o = c.loop-step.invariant.tells o ∙ ap (λ u. membership (trace u o)) (take_all c.loop-step.step-index c.args.steps.now (omega arith))

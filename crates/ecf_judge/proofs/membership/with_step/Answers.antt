@@ -1,7 +1,7 @@
 use Rattle.std.proofs.Common.{refl}
 use Rattle.std.proofs.lemmas.Bool.{eq-eqb, ne_eqb}
 use Rattle.ecf_judge.specs.Membership.{with_member}
-use Rattle.ecf_judge.proofs.membership.take_in.Goals as goal
+use Rattle.ecf_judge.proofs.membership.with_step.Goals as goal
 
 pub returns-in-Nobody : goal.returns-in-Nobody
 unfolding with_member
