@@ -3,6 +3,8 @@
 ghost use Rattle.std.specs.Prelude.{◌≡◌, ◌==◌, ◌≤◌, ◌<◌, ℕ, true, false, length, slice_index_or};
 ghost use Rattle.std.specs.List.{list_all};
 ghost use Rattle.ecf_judge.specs.Membership.{membership, with_member};
+ghost use Rattle.ecf_judge.specs.declared.membership.Membership.TheVariants.{Nobody, Several};
+ghost use Rattle.ecf_lang.specs.declared.limits.TheConstants.{MAX_OBJECTS};
 ghost use Rattle.ecf_lang.specs.declared.run.Step.{Step};
 ghost use Rattle.ecf_verdicts.specs.Traces.{trace};
 
@@ -25,7 +27,7 @@ pub struct Memberships {
     /// A number above the objects on which several have steps.
     pub above: usize,
     ghost long: { length table ≡ MAX_OBJECTS },
-    ghost several_below: { (o : ℕ) → slice_index_or table o Membership.Nobody ≡ Membership.Several → o < above },
+    ghost several_below: { (o : ℕ) → slice_index_or table o Nobody ≡ Several → o < above },
     ghost few: { above ≤ MAX_OBJECTS },
 }
 
@@ -95,7 +97,7 @@ fn with_step(members: Membership, inv: u16) -> Membership
 
 /// For each object who has steps on it, and a number above the objects on which several have. A step that tells nothing
 /// new costs a look.
-pub fn memberships(steps: &[Step]) -> Memberships
+pub fn memberships_of(steps: &[Step]) -> Memberships
     ensures { (o : ℕ) → slice_index_or result.table o Membership.Nobody ≡ membership (trace steps.now o) }
 {
     let mut table = [Membership::Nobody; MAX_OBJECTS];

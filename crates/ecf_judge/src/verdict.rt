@@ -5,7 +5,7 @@ ghost use Rattle.ecf_judge.specs.Judged.{verdict_of};
 ghost use Rattle.ecf_online.specs.declared.limits.TheConstants.{MAX_STEPS};
 ghost use Rattle.ecf_verdicts.specs.Verdicts.{verdict};
 
-use crate::membership::{is_of_one, is_several, memberships};
+use crate::membership::{is_of_one, is_several, memberships_of};
 use crate::object::judge_object;
 use crate::traces::{gather, trace_at};
 use ecf_conflict::numbers_are_members;
@@ -56,7 +56,7 @@ fn judge_objects(alloc: Global, steps: &[Step]) -> Result<Verdict, AllocError>
     members_are();
     single_free();
     test_tells_free();
-    let members = memberships(steps);
+    let members = memberships_of(steps);
     let traces = gather(alloc, steps, &members)?;
     let mut orders = Items::new(alloc);
     for object in 0..members.above {

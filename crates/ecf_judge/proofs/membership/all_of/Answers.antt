@@ -7,9 +7,9 @@ use Rattle.ecf_judge.proofs.membership.all_of.Goals as goal
 pub loop-step-preserved : goal.loop-step-preserved
 loop-step-preserved c =
     let inside : c.loop-step.step-index < length c.args.steps.now = omega arith in
-    all_skip (λ (s : Step). s.inv == c.args.inv) c.args.steps.now c.loop-step.step-index zero_step inside (eq-eqb _ _ ?) ∙ c.loop-step.invariant
+    all_skip (λ (s : Step). s.inv == c.args.inv) c.args.steps.now c.loop-step.step-index zero_step inside (eq-eqb _ _ c.if-step-inv.false) ∙ c.loop-step.invariant
 
-pub returns-then-inv-inv : goal.returns-then-inv-inv
-returns-then-inv-inv c =
+pub returns-then-step-inv : goal.returns-then-step-inv
+returns-then-step-inv c =
     let inside : c.loop-step.step-index < length c.args.steps.now = omega arith in
-    sym (sym c.loop-step.invariant ∙ all_fails (λ (s : Step). s.inv == c.args.inv) c.args.steps.now c.loop-step.step-index zero_step inside (ne_eqb _ _ ?))
+    sym (sym c.loop-step.invariant ∙ all_fails (λ (s : Step). s.inv == c.args.inv) c.args.steps.now c.loop-step.step-index zero_step inside (ne_eqb _ _ c.if-step-inv.true))

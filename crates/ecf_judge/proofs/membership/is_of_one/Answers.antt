@@ -6,4 +6,4 @@ pub returns-in-empty : goal.returns-in-empty
 returns-in-empty c _ = all_one c.args.steps.now 0 (all_none c.args.steps.now 0 c.in-empty.len_below)
 
 pub returns-in-len1-up : goal.returns-in-len1-up
-returns-in-len1-up c yes = all_one c.args.steps.now _ (sym c.all_of.ensures ∙ yes)
+returns-in-len1-up c is = all_one c.args.steps.now _ (sym c.all_of.ensures ∙ is)

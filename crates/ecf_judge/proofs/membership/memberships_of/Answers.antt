@@ -3,8 +3,8 @@ use Rattle.std.proofs.lemmas.List.{take_all}
 use Rattle.ecf_judge.specs.Membership.{membership}
 use Rattle.ecf_verdicts.specs.Traces.{trace}
 use Rattle.ecf_judge.proofs.TraceLaws.{below_next, below_none, kept_at, table_none, table_at, zero_step}
-use Rattle.ecf_judge.proofs.membership.memberships.Goals.{then-not-is_known, else-not-is_known}
-use Rattle.ecf_judge.proofs.membership.memberships.Goals as goal
+use Rattle.ecf_judge.proofs.membership.memberships_of.Goals.{then-not-is_known, else-not-is_known}
+use Rattle.ecf_judge.proofs.membership.memberships_of.Goals as goal
 
 pub loop-step-init : goal.loop-step-init
 loop-step-init c = record { long = refl; tells = λ o. table_none 256 o; several = below_none 256; few = omega arith }
@@ -20,13 +20,13 @@ loop-step-preserved c =
     elim c.if-not-is_known.branch [
       | then-not-is_known w ↦ rw (w.table-is, w.above-is) (record {
         long = length-set _ _ _ ∙ c.loop-step.invariant.long;
-        tells = table_at steps k zero_step table w.with_step-more.result inside taken c.loop-step.invariant.tells ?;
-        several = below_next table at w.with_step-more.result c.loop-step.above w.above_with.result taken w.above_with.ensures.longer w.above_with.ensures.several c.loop-step.invariant.several;
-        few = w.above_with.ensures.few c.loop-step.invariant.few;
+        tells = table_at steps k zero_step table w.with_step-more.result inside taken c.loop-step.invariant.tells w.with_step-more.ensures;
+        several = below_next table at w.with_step-more.result c.loop-step.above w.above_with-above.result taken w.above_with-above.ensures.longer w.above_with-above.ensures.several c.loop-step.invariant.several;
+        few = w.above_with-above.ensures.few c.loop-step.invariant.few;
       })
       | else-not-is_known w ↦ rw (w.table-is, w.above-is) (record {
         long = c.loop-step.invariant.long;
-        tells = kept_at steps k zero_step table inside ? c.loop-step.invariant.tells;
+        tells = kept_at steps k zero_step table inside (w.if-not-is_known.ensures refl) c.loop-step.invariant.tells;
         several = c.loop-step.invariant.several;
         few = c.loop-step.invariant.few;
       })

@@ -4,7 +4,7 @@ use Rattle.ecf_judge.specs.declared.membership.Membership.TheVariants.{Nobody}
 use Rattle.ecf_lang.specs.declared.limits.TheConstants.{MAX_OBJECTS}
 use Rattle.ecf_verdicts.specs.Traces.{trace}
 use Rattle.ecf_judge.proofs.TraceLaws.{SeveralBelow}
-use Rattle.ecf_judge.proofs.membership.memberships.Given as goal
+use Rattle.ecf_judge.proofs.membership.memberships_of.Given as goal
 
 abbrev pub invariant-loop-step : goal.invariant-loop-step
 invariant-loop-step l = record {
