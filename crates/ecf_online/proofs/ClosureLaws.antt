@@ -1,13 +1,13 @@
 -- Rows that tell what reaches what, with one pair more.
 use Rattle.std.proofs.Common.{◌≡◌, ◌≢◌, ℕ, ◌+◌, ◌<◌, ◌≤◌, ◌/◌, Bool, true, false, ◌&&◌, ◌||◌, ◌==◌, List, [], length, get_or, slice_set, ◌⊎◌, refl, sym, ap, ◌∙◌, subst, arith, inl, inr, get_or-set_other, get_or-set_same, length-set}
-use Rattle.std.proofs.lemmas.Bool.{both_ways, cases_eq, cases_lt, or_cases, or_left, or_right, and_parts, and_from, eq-eqb, eqb-true, ne_eqb}
+use Rattle.std.proofs.lemmas.Bool.{both_ways, cases_Bool, cases_eq, cases_lt, or_cases, or_left, or_right, and_parts, and_from, eq-eqb, eqb-true, ne_eqb}
 use Rattle.std.proofs.lemmas.List.{get_or_past}
 use Rattle.ecf_graph.specs.Paths.{Reaches, with_pair}
 use Rattle.ecf_graph.specs.PathLemmas.{chain, wider}
 use Rattle.ecf_graph.specs.Rows.{is_in_row, is_member}
 use Rattle.ecf_graph.specs.RowLemmas.{in_row_other, in_row_past, in_row_same, member_past}
 use Rattle.ecf_precedence.specs.Laws.{OnePairMore}
-use Rattle.ecf_online.specs.Closure.{IsClosure, IsReady, IsReadyPair, IsShaped, IsSpread}
+use Rattle.ecf_online.specs.Closure.{HasRoomForAll, HoldsReaching, IsClosure, IsReady, IsReadyPair, IsShaped, IsSpread}
 
 pub or_none : (x : Bool) → (x || false) ≡ x
 or_none true = refl
@@ -170,6 +170,39 @@ spread_all old i j new h s a b = elim (cases_lt b (length old)) [
       let not_j : is_in_row old b j ≡ false = in_row_past old b j g in
       in_row_past new b a (omega (arith, g, w)) ∙ sym (ap (λ x. x || (((b == j) || is_in_row old b j) && source old i a)) none ∙ (ap (λ x. (x || is_in_row old b j) && source old i a) (ne_eqb b j n) ∙ ap (λ x. x && source old i a) not_j))
 ]
+
+-- where no row has j one row takes the pair
+pub spread_near : (old : List (List ℕ)) (i j : ℕ) (new : List (List ℕ)) → ((b : ℕ) → is_in_row old b j ≡ false) → Joins old j i new → IsSpread old i j new
+spread_near old i j new none f = record {
+  joined = λ a b l. f.joined a b ∙ ap (λ x. is_in_row old b a || (x && source old i a)) (sym (ap (λ x. (b == j) || x) (none b) ∙ or_none (b == j)));
+  long = f.long;
+}
+
+-- those that reach any
+pub no_row_has : (rows : List (List ℕ)) (set : List ℕ) (j : ℕ) → HoldsReaching rows set → is_member set j ≡ false → (b : ℕ) → is_in_row rows b j ≡ false
+no_row_has rows set j h none b = elim (cases_Bool (is_in_row rows b j)) [
+  | inl t ↦ absurd (both_ways _ none (h b j t))
+  | inr f ↦ f
+]
+
+pub reaching_pair : (old : List (List ℕ)) (i j : ℕ) (new : List (List ℕ)) (set set' : List ℕ) → j < length old → IsSpread old i j new → ((k : ℕ) → is_member set' k ≡ (is_member set k || (k == i))) → HoldsReaching old set → HoldsReaching new set'
+reaching_pair old i j new set set' h s put f b a e = put a ∙ elim (or_cases _ _ (sym (spread_all old i j new h s a b) ∙ e)) [
+  | inl k ↦ or_left _ _ (f b a k)
+  | inr k ↦ elim (or_cases _ _ (and_parts _ _ k).1) [
+    | inl m ↦ or_left _ _ (f i a m)
+    | inr m ↦ or_right _ _ m
+  ]
+]
+
+pub reaching_same : (old new : List (List ℕ)) (set set' : List ℕ) → ((b a : ℕ) → is_in_row new b a ≡ is_in_row old b a) → ((a : ℕ) → is_member set' a ≡ is_member set a) → HoldsReaching old set → HoldsReaching new set'
+reaching_same old new set set' rows_same set_same h b a e = set_same a ∙ h b a (sym (rows_same b a) ∙ e)
+
+pub reaching_none : (rows : List (List ℕ)) (set : List ℕ) → rows ≡ [] → HoldsReaching rows set
+reaching_none rows set none b a e = (let l : length rows ≡ 0 = ap (λ r. length r) none in absurd (both_ways _ (in_row_past rows b a (omega (arith, l))) e))
+
+-- room in a set stays
+pub room_same : (old new : List (List ℕ)) (set set' : List ℕ) → ((b : ℕ) → length (get_or new b []) ≡ length (get_or old b [])) → length set' ≡ length set → HasRoomForAll old set → HasRoomForAll new set'
+room_same old new set set' words same h a p = (let e = words a in let l = h a (omega (arith, p, e)) in omega (arith, l, same))
 
 pub shaped_spread : (old : List (List ℕ)) (i j : ℕ) (new : List (List ℕ)) → IsShaped old → IsReadyPair old (i, j) → IsSpread old i j new → ((b : ℕ) → length (get_or new b []) ≡ length (get_or old b [])) → IsShaped new
 shaped_spread old i j new h ready s words = record {

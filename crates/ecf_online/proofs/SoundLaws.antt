@@ -5,16 +5,17 @@ use Rattle.std.proofs.lemmas.Bool.{both_ways, cases_eq, cases_lt}
 use Rattle.std.proofs.lemmas.List.{get_or_append_left, get_or_past, length-append}
 use Rattle.std.proofs.lemmas.List.Sums.{sum_by-set}
 use Rattle.std.proofs.Math.Seq.{get_or-append_seam}
+use Rattle.ecf_graph.specs.Rows.{is_member}
 use Rattle.ecf_graph.specs.RowLemmas.{in_row_past}
 use Rattle.ecf_lang.specs.declared.cell.Cell.{Cell}
-use Rattle.ecf_online.specs.Closure.{IsReady, IsShaped}
+use Rattle.ecf_online.specs.Closure.{HasRoomForAll, HoldsReaching, IsReady, IsShaped}
 use Rattle.ecf_online.specs.Reads.{blank, read_at, reads_after, stand_in, watch_after}
 use Rattle.ecf_online.specs.Sound.{IsSound}
 use Rattle.ecf_online.specs.Widening.{IsWide, Widens}
 use Rattle.ecf_online.specs.declared.limits.TheConstants.{MAX_STEPS}
 use Rattle.ecf_online.specs.declared.watch.Read.{Read}
 use Rattle.ecf_online.specs.declared.watch.Watch.{Watch}
-use Rattle.ecf_online.proofs.ClosureLaws.{ready_same, ready_within}
+use Rattle.ecf_online.proofs.ClosureLaws.{ready_same, ready_within, reaching_same}
 use Rattle.ecf_online.proofs.ReadLaws.{stands_more, stands_new, stands_none}
 
 abbrev pub count_of : Watch → ℕ
@@ -25,6 +26,14 @@ wide_shaped rows seen width w = record {
   members = w.members;
   wide = λ k a p q. (let l = w.wide k p in let m = w.own a q in omega (arith, l, m));
 }
+
+-- a set as wide has room for all
+pub room_wide : (rows : List (List ℕ)) (seen set : List ℕ) (width : ℕ) → IsWide rows seen width → width ≤ length set → HasRoomForAll rows set
+room_wide rows seen set width w h a p = (let l = w.own a p in omega (arith, l, h))
+
+-- those that reach any, in rows made wider
+pub reaching_wider : (rows rows' : List (List ℕ)) (seen seen' : List ℕ) (width width' : ℕ) (set set' : List ℕ) → Widens rows seen width rows' seen' width' → ((a : ℕ) → is_member set' a ≡ is_member set a) → HoldsReaching rows set → HoldsReaching rows' set'
+reaching_wider rows rows' seen seen' width width' set set' w same h = reaching_same rows rows' set set' w.same same h
 
 -- rows as wide as before
 pub wide_same : (old new : List (List ℕ)) (seen seen' : List ℕ) (width : ℕ) → ((b : ℕ) → length (get_or new b []) ≡ length (get_or old b [])) → IsShaped new → length seen' ≡ length seen → IsWide old seen width → IsWide new seen' width

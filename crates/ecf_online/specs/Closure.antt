@@ -1,7 +1,7 @@
 -- Rows of bits that tell what reaches what, and which of them have room.
 use Rattle.std.specs.Prelude.{◌≡◌, ◌<◌, ◌/◌, ℕ, Bool, true, ◌&&◌, ◌||◌, ◌==◌, List, [], length, slice_index_or}
 use Rattle.ecf_graph.specs.Paths.{Reaches}
-use Rattle.ecf_graph.specs.Rows.{is_in_row}
+use Rattle.ecf_graph.specs.Rows.{is_in_row, is_member}
 
 -- a is in the row of b exactly where it reaches b
 pub record IsClosure (r : ℕ → ℕ → Bool) (rows : List (List ℕ)) : Type 0 where
@@ -26,3 +26,11 @@ IsReadyPair rows p = IsReady rows p.0 × IsReady rows p.1
 pub record IsShaped (rows : List (List ℕ)) : Type 0 where
   pub members : (b a : ℕ) → is_in_row rows b a ≡ true → IsReady rows a
   pub wide : (k a : ℕ) → IsReady rows k → IsReady rows a → a / 64 < length (slice_index_or rows k [])
+
+-- each number that stands in a row is in the set
+abbrev pub HoldsReaching : List (List ℕ) → List ℕ → Type 0
+HoldsReaching rows reaching = (b a : ℕ) → is_in_row rows b a ≡ true → is_member reaching a ≡ true
+
+-- the set has room for all numbers whose rows have words
+abbrev pub HasRoomForAll : List (List ℕ) → List ℕ → Type 0
+HasRoomForAll rows set = (a : ℕ) → IsReady rows a → a / 64 < length set

@@ -29,6 +29,7 @@ pub record HasRoom (n : ℕ) (m : Monitor) : Type 0 where
   pub watches : length m.cells.keys + n ≤ vec_capacity m.watches
   pub reads : vec_len m.reads + n ≤ vec_capacity m.reads
   pub pairs : 2 * (m.count + n) ≤ vec_capacity m.pairs
+  pub reaching : m.width ≤ length m.reaching
 
 -- all that is kept of the trace stayed
 pub record KeepsTrace (old new : Monitor) : Type 0 where

@@ -7,7 +7,7 @@ ghost use Rattle.ecf_graph.specs.Pairs.{joins};
 ghost use Rattle.ecf_graph.specs.Paths.{SameReach};
 ghost use Rattle.ecf_graph.specs.Placement.{placement_of};
 ghost use Rattle.ecf_lang.specs.declared.run.Step.{Step};
-ghost use Rattle.ecf_online.specs.Closure.{IsReady};
+ghost use Rattle.ecf_online.specs.Closure.{HoldsReaching, IsReady};
 ghost use Rattle.ecf_online.specs.Sound.{IsSound};
 ghost use Rattle.ecf_online.specs.Watched.{HasSeen, first_not_free, first_with};
 ghost use Rattle.ecf_online.specs.declared.limits.TheConstants.{MAX_STEPS};
@@ -44,6 +44,8 @@ pub struct Monitor {
     rows: Vec<Row>,
     /// How many words each row has that has any.
     width: usize,
+    /// The invocations that reach any.
+    reaching: Row,
     /// The pairs that the steps added.
     pairs: Vec<(u16, u16)>,
     /// The invocations with steps, and a number above them.
@@ -54,6 +56,7 @@ pub struct Monitor {
     /// The number of steps of the first part with a cycle.
     first: Option<u32>,
     ghost sound: { IsSound cells.keys watches.items reads.items rows.items pairs.items seen width count },
+    ghost reaching_are: { HoldsReaching rows.items reaching },
 }
 
 /// The first part with a cycle, after a step that closed one or didn't.
@@ -83,6 +86,7 @@ impl Monitor {
             width: 0,
             pairs: Vec::new(alloc),
             seen: Row::new(alloc),
+            reaching: Row::new(alloc),
             above: 0,
             count: 0,
             first: None,
@@ -161,7 +165,8 @@ impl Monitor {
             &mut self.seen,
             &mut self.width,
             piece,
-        )
+        )?;
+        self.reaching.widen(self.width)
     }
 
     /// Takes further steps, for which there is room.
@@ -204,7 +209,13 @@ impl Monitor {
             step.inv,
             step.write,
         );
-        add_pairs(self.alloc, &mut self.rows, self.pairs.as_slice(), from);
+        add_pairs(
+            self.alloc,
+            &mut self.rows,
+            &mut self.reaching,
+            self.pairs.as_slice(),
+            from,
+        );
         mark_step(
             &mut self.watches[cell],
             &mut self.reads,

@@ -116,7 +116,16 @@ fn make_ready(
     open_row(alloc, rows, *width, i)
 }
 
-/// Makes room for the invocations of a piece.
+/// The greatest invocation of a piece; 0 of none.
+fn greatest(piece: &[Step]) -> u16 {
+    let mut most = 0;
+    for step in piece {
+        most = most.max(step.inv);
+    }
+    most
+}
+
+/// Makes room for the invocations of a piece. Rows get at once the words that the greatest asks for, so that none grows twice.
 pub fn make_all_ready(
     alloc: Global,
     rows: &mut Vec<Row>,
@@ -127,6 +136,7 @@ pub fn make_all_ready(
     ensures widens { Widens rows.old.items seen.old width.old rows.new.items seen.new width.new }
     ensures ready { OnOk result ((k : ℕ) (d : Step) → k < length piece.now → IsReady rows.new.items (slice_index_or piece.now k d).inv) }
 {
+    grow(rows, seen, width, greatest(piece))?;
     for step in piece {
         make_ready(alloc, rows, seen, width, step.inv)?;
     }

@@ -14,7 +14,7 @@ use Rattle.ecf_online.specs.declared.watch.Watch.{Watch}
 use Rattle.ecf_online.proofs.ClosureLaws.{closure_alike}
 use Rattle.ecf_online.proofs.PairLaws.{new_ready}
 use Rattle.ecf_online.proofs.ReadLaws.{back_ready}
-use Rattle.ecf_online.proofs.SoundLaws.{sound_next}
+use Rattle.ecf_online.proofs.SoundLaws.{room_wide, sound_next}
 use Rattle.ecf_online.proofs.WatchLaws.{watched_next}
 use Rattle.ecf_online.proofs.monitor.Monitor.take_step.Goals as goal
 
@@ -46,6 +46,12 @@ add_pairs-requires-clause-ready c m d from below =
     (new_ready rows pairs w.writer (readers_of reads w) s.inv s.write c.requires.ready (λ i e. old.sound.writers k i (ap (λ (x : Watch). x.writer) (sym (c.extend_watches.ensures.same k)) ∙ e))
     (back_ready rows reads w.readers w.last old.sound.readers stand) m d first (subst (λ (l : List (ℕ × ℕ)). m < length l) pairs_is below))
 
+pub add_pairs-requires-clause-room : goal.add_pairs-requires-clause-room
+add_pairs-requires-clause-room c = room_wide c.args.self.now.rows.items c.args.self.now.seen c.args.self.now.reaching c.args.self.now.width c.args.self.now.sound.wide c.requires.room.reaching
+
+pub add_pairs-requires-clause-reaching : goal.add_pairs-requires-clause-reaching
+add_pairs-requires-clause-reaching c = c.args.self.now.reaching_are
+
 pub invariant_of-self : goal.invariant_of-self
 invariant_of-self c =
     let s = c.args.step.now in
@@ -74,6 +80,7 @@ invariant_of-self c =
     record {
       sound = subst (λ (x : Watch). IsSound keys (slice_set ws k x) c.mark_step.new.reads.items rows' pairs' seen' old.width (old.count + 1)) (sym watch_is)
           (subst (λ (r : List Read). IsSound keys (slice_set ws k (watch_after w (length reads) s.inv s.write)) r rows' pairs' seen' old.width (old.count + 1)) (sym reads_is) next);
+      reaching_are = c.add_pairs.ensures.reaching;
     }
 
 pub returns-clause-watched : goal.returns-clause-watched
