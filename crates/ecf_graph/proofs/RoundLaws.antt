@@ -4,6 +4,7 @@ use Rattle.std.specs.List.{list_any}
 use Rattle.std.proofs.lemmas.Bool.{cases_Bool, cases_eq, both_ways, eq-eqb, eqb-true, ne_eqb, or_cases, or_left, or_right}
 use Rattle.std.proofs.lemmas.List.{append-nil, drop_all}
 use Rattle.ecf_graph.specs.Placement.{Placement, without}
+use Rattle.ecf_graph.specs.Rows.{is_member, those_in}
 use Rattle.ecf_graph.specs.Placement.{waits, next_of, placement_from, placement_of}
 use Rattle.ecf_graph.specs.Ordered.{IsOrdered}
 use Rattle.ecf_graph.specs.declared.placement.Ordered.{Ordered}
@@ -38,16 +39,6 @@ waits_no r list p j e n = elim (cases_Bool (list_any (λ x. r x j) list)) [
   | inl t ↦ (let w = any_one (λ x. r x j) list t in absurd (n w.0 (e w.0 ∙ w.1) w.2))
 ]
 
--- looking through a list
-pub find_here : (p : ℕ → Bool) (xs : List ℕ) (k x : ℕ) → k < length xs → x ≡ get_or xs k 0 → p x ≡ true → find p (drop k xs) ≡ Some x
-find_here p xs k x h e t = rw (drop-cons xs k 0 h, sym e, t) refl
-
-pub find_there : (p : ℕ → Bool) (xs : List ℕ) (k x : ℕ) → k < length xs → x ≡ get_or xs k 0 → p x ≡ false → find p (drop k xs) ≡ find p (drop (k + 1) xs)
-find_there p xs k x h e t = rw (drop-cons xs k 0 h, sym e, t, add-one k) refl
-
-pub find_end : (p : ℕ → Bool) (xs : List ℕ) (k : ℕ) → length xs ≤ k → find p (drop k xs) ≡ None
-find_end p xs k h = rw (drop_all k xs h) refl
-
 and_none : (q n : Bool) → n ≡ false → false ≡ (q && n)
 and_none true n e = sym e
 and_none false n e = refl
@@ -63,6 +54,62 @@ any_without j (x ∷ xs) i = go (cases_eq x j) (cases_eq x i) (any_without j xs 
     go (inl a) (inr b) deep = rw (eq-eqb x j a, ne_eqb x i b) deep
     go (inr a) (inl b) deep = rw (ne_eqb x j a, eq-eqb x i b, ne_eqb i j (λ f. a (b ∙ f))) refl
     go (inr a) (inr b) deep = rw (ne_eqb x j a, ne_eqb x i b) deep
+
+-- those of a list that are in a set, a place at a time
+pub in_here : (left xs : List ℕ) (k x : ℕ) → k < length xs → x ≡ get_or xs k 0 → is_member left x ≡ true → those_in left (drop k xs) ≡ x ∷ those_in left (drop (k + 1) xs)
+unfolding those_in
+in_here left xs k x h e t = rw (drop-cons xs k 0 h, sym e, t, add-one k) refl
+
+pub in_there : (left xs : List ℕ) (k x : ℕ) → k < length xs → x ≡ get_or xs k 0 → is_member left x ≡ false → those_in left (drop k xs) ≡ those_in left (drop (k + 1) xs)
+unfolding those_in
+in_there left xs k x h e t = rw (drop-cons xs k 0 h, sym e, t, add-one k) refl
+
+pub in_end : (left xs : List ℕ) (k : ℕ) → length xs ≤ k → those_in left (drop k xs) ≡ []
+unfolding those_in
+in_end left xs k h = rw (drop_all k xs h) refl
+
+-- a set of all of a list
+pub in_all : (left xs : List ℕ) → ((i : ℕ) → list_any (λ x. x == i) xs ≡ true → is_member left i ≡ true) → those_in left xs ≡ xs
+unfolding those_in
+in_all left [] h = refl
+in_all left (x ∷ xs) h = rw (h x (or_left _ _ (eq-eqb x x refl))) (ap (λ l. x ∷ l) (in_all left xs (λ i e. h i (or_right _ _ e))))
+
+-- a set without a number
+pub in_without : (left left' : List ℕ) (j : ℕ) → ((k : ℕ) → is_member left' k ≡ (is_member left k && not (k == j))) → (xs : List ℕ) → those_in left' xs ≡ without j (those_in left xs)
+unfolding those_in without
+in_without left left' j e [] = refl
+in_without left left' j e (x ∷ xs) = elim (cases_Bool (is_member left x)) [
+  | inl t ↦ elim (cases_eq x j) [
+    | inl same ↦ rw (e x, t, eq-eqb x j same) (in_without left left' j e xs)
+    | inr apart ↦ rw (e x, t, ne_eqb x j apart) (ap (λ l. x ∷ l) (in_without left left' j e xs))
+  ]
+  | inr f ↦ rw (e x, f) (in_without left left' j e xs)
+]
+
+find_first : (p : ℕ → Bool) (x : ℕ) (xs : List ℕ) → p x ≡ true → find p (x ∷ xs) ≡ Some x
+find_first p x xs t = rw t refl
+
+find_later : (p : ℕ → Bool) (x : ℕ) (xs : List ℕ) → p x ≡ false → find p (x ∷ xs) ≡ find p xs
+find_later p x xs f = rw f refl
+
+-- looking through those that are left
+pub left_here : (r : ℕ → ℕ → Bool) (left members list : List ℕ) (k x : ℕ) → k < length members → x ≡ get_or members k 0 → ((i : ℕ) → is_member left i ≡ list_any (λ y. y == i) list) →
+    (is_member left x ≡ true) × ((i : ℕ) → is_member left i ≡ true → r i x ≡ true → ⊥) →
+    find (λ j. not (waits r list j)) (those_in left (drop k members)) ≡ Some x
+left_here r left members list k x h e set yes =
+    ap (find (λ j. not (waits r list j))) (in_here left members k x h e yes.0) ∙ find_first (λ j. not (waits r list j)) x (those_in left (drop (k + 1) members)) (ap not (waits_no r list (is_member left) x set yes.1))
+
+pub left_there : (r : ℕ → ℕ → Bool) (left members list : List ℕ) (k x : ℕ) → k < length members → x ≡ get_or members k 0 → ((i : ℕ) → is_member left i ≡ list_any (λ y. y == i) list) →
+    (is_member left x ≡ true → (i : ℕ) × (is_member left i ≡ true) × (r i x ≡ true)) →
+    find (λ j. not (waits r list j)) (those_in left (drop k members)) ≡ find (λ j. not (waits r list j)) (those_in left (drop (k + 1) members))
+left_there r left members list k x h e set no = elim (cases_Bool (is_member left x)) [
+  | inl t ↦ ap (find (λ j. not (waits r list j))) (in_here left members k x h e t) ∙ find_later (λ j. not (waits r list j)) x (those_in left (drop (k + 1) members)) (ap not (waits_yes r list (is_member left) x set (no t)))
+  | inr f ↦ ap (find (λ j. not (waits r list j))) (in_there left members k x h e f)
+]
+
+-- a number that is left was put on the list of those left
+pub put_on : (list later : List ℕ) (x : ℕ) (all : List ℕ) → list ++ x ∷ later ≡ all → (list ++ x ∷ []) ++ later ≡ all
+put_on list later x all e = append_assoc list (x ∷ []) later ∙ e
 
 -- rounds
 pub round_none : (r : ℕ → ℕ → Bool) (n : ℕ) (u : List ℕ) → next_of r u ≡ None → placement_from r n u ≡ record { order = []; rest = u }

@@ -1,34 +1,32 @@
-use Rattle.std.proofs.Common.{◌≡◌, ◌<◌, ℕ, Bool, not, true, false, length, get_or, refl, sym, ap, ◌∙◌, arith}
-use Rattle.ecf_graph.specs.Rows.{is_member}
-use Rattle.ecf_graph.specs.Rows.{is_in_row}
+use Rattle.std.proofs.Common.{◌≡◌, ◌<◌, ℕ, Bool, not, find, length, get_or, None, refl, sym, ap, ◌∙◌, arith}
+use Rattle.std.proofs.lemmas.Grind.{get_or_default_zero}
+use Rattle.ecf_graph.specs.Rows.{is_in_row, those_in}
 use Rattle.ecf_graph.specs.Placement.{next_of, waits}
-use Rattle.ecf_graph.proofs.RoundLaws.{waits_yes, waits_no, find_here, find_there, find_end}
+use Rattle.ecf_graph.proofs.RoundLaws.{in_end, left_here, left_there}
 use Rattle.ecf_graph.proofs.placement.next.Goals as goal
 
-pub loop-j-init : goal.loop-j-init
+pub loop-at-init : goal.loop-at-init
 unfolding next_of
-loop-j-init c = refl
+loop-at-init c = ap (find (λ j. not (waits (λ a b. is_in_row c.args.rows.now b a) (those_in c.args.left.now c.args.members.now) j))) c.requires.from
 
-pub loop-j-preserved : goal.loop-j-preserved
-loop-j-preserved c =
+pub loop-at-preserved : goal.loop-at-preserved
+loop-at-preserved c =
     let r : ℕ → ℕ → Bool = λ a b. is_in_row c.args.rows.now b a in
-    let list = c.args.list.now in
-    let x = get_or list c.loop-j.j-index 0 in
-    let inside : c.loop-j.j-index < length list = omega arith in
-    let w : waits r list x ≡ true = waits_yes r list (is_member c.args.left.now) x c.requires (c.has_before.ensures.yes c.if-not-has_before.false) in
-    sym (find_there (λ j. not (waits r list j)) list c.loop-j.j-index x inside refl (ap not w)) ∙ c.loop-j.invariant
+    let members = c.args.members.now in
+    let x = get_or members c.loop-at.at 0 in
+    let inside : c.loop-at.at < length members = omega arith in
+    sym (left_there r c.args.left.now members (those_in c.args.left.now members) c.loop-at.at x inside refl c.requires.set (c.is_free.ensures.no c.if-is_free.false)) ∙ c.loop-at.invariant
 
-pub returns-then-not-has_before : goal.returns-then-not-has_before
-returns-then-not-has_before c =
+pub returns-then-is_free : goal.returns-then-is_free
+returns-then-is_free c =
     let r : ℕ → ℕ → Bool = λ a b. is_in_row c.args.rows.now b a in
-    let list = c.args.list.now in
-    let x = get_or list c.loop-j.j-index 0 in
-    let inside : c.loop-j.j-index < length list = omega arith in
-    let w : waits r list x ≡ false = waits_no r list (is_member c.args.left.now) x c.requires (c.has_before.ensures.no c.if-not-has_before.true) in
-    sym (find_here (λ j. not (waits r list j)) list c.loop-j.j-index x inside refl (ap not w)) ∙ c.loop-j.invariant
+    let members = c.args.members.now in
+    let x = get_or members c.loop-at.at 0 in
+    let inside : c.loop-at.at < length members = omega arith in
+    sym (left_here r c.args.left.now members (those_in c.args.left.now members) c.loop-at.at x inside refl c.requires.set (c.is_free.ensures.yes c.if-is_free.true)) ∙ c.loop-at.invariant
 
 pub returns : goal.returns
 returns c =
-    let r : ℕ → ℕ → Bool = λ a b. is_in_row c.args.rows.now b a in
-    let list = c.args.list.now in
-    sym (find_end (λ j. not (waits r list j)) list c.loop-j.j-index (omega arith)) ∙ c.loop-j.invariant
+    let left = c.args.left.now in
+    let members = c.args.members.now in
+    sym (ap (find (λ j. not (waits (λ a b. is_in_row c.args.rows.now b a) (those_in left members) j))) (in_end left members c.loop-at.at (omega arith))) ∙ c.loop-at.invariant
