@@ -96,14 +96,14 @@ find_later p x xs f = rw f refl
 pub left_here : (r : ℕ → ℕ → Bool) (left members list : List ℕ) (k x : ℕ) → k < length members → x ≡ get_or members k 0 → ((i : ℕ) → is_member left i ≡ list_any (λ y. y == i) list) →
     (is_member left x ≡ true) × ((i : ℕ) → is_member left i ≡ true → r i x ≡ true → ⊥) →
     find (λ j. not (waits r list j)) (those_in left (drop k members)) ≡ Some x
-left_here r left members list k x h e set yes =
-    ap (find (λ j. not (waits r list j))) (in_here left members k x h e yes.0) ∙ find_first (λ j. not (waits r list j)) x (those_in left (drop (k + 1) members)) (ap not (waits_no r list (is_member left) x set yes.1))
+left_here r left members list k x h e set is_so =
+    ap (find (λ j. not (waits r list j))) (in_here left members k x h e is_so.0) ∙ find_first (λ j. not (waits r list j)) x (those_in left (drop (k + 1) members)) (ap not (waits_no r list (is_member left) x set is_so.1))
 
 pub left_there : (r : ℕ → ℕ → Bool) (left members list : List ℕ) (k x : ℕ) → k < length members → x ≡ get_or members k 0 → ((i : ℕ) → is_member left i ≡ list_any (λ y. y == i) list) →
     (is_member left x ≡ true → (i : ℕ) × (is_member left i ≡ true) × (r i x ≡ true)) →
     find (λ j. not (waits r list j)) (those_in left (drop k members)) ≡ find (λ j. not (waits r list j)) (those_in left (drop (k + 1) members))
-left_there r left members list k x h e set no = elim (cases_Bool (is_member left x)) [
-  | inl t ↦ ap (find (λ j. not (waits r list j))) (in_here left members k x h e t) ∙ find_later (λ j. not (waits r list j)) x (those_in left (drop (k + 1) members)) (ap not (waits_yes r list (is_member left) x set (no t)))
+left_there r left members list k x h e set not_so = elim (cases_Bool (is_member left x)) [
+  | inl t ↦ ap (find (λ j. not (waits r list j))) (in_here left members k x h e t) ∙ find_later (λ j. not (waits r list j)) x (those_in left (drop (k + 1) members)) (ap not (waits_yes r list (is_member left) x set (not_so t)))
   | inr f ↦ ap (find (λ j. not (waits r list j))) (in_there left members k x h e f)
 ]
 

@@ -3,10 +3,13 @@ use Rattle.std.proofs.lemmas.Bool.{both_ways, cases_Bool}
 use Rattle.ecf_graph.proofs.placement.is_free.Goals as goal
 
 pub returns-then-contains-clause-yes : goal.returns-then-contains-clause-yes
-returns-then-contains-clause-yes c e = (sym c.contains.ensures ∙ c.if-contains.true, elim (cases_Bool c.has_before.result) [
-  | inl t ↦ absurd (both_ways _ (ap not t) e)
-  | inr f ↦ c.has_before.ensures.no f
-])
+returns-then-contains-clause-yes c e = (
+  sym c.contains.ensures ∙ c.if-contains.true,
+  elim (cases_Bool c.has_before.result) [
+    | inl t ↦ absurd (both_ways _ (ap not t) e)
+    | inr f ↦ c.has_before.ensures.no f
+  ],
+)
 
 pub returns-then-contains-clause-no : goal.returns-then-contains-clause-no
 returns-then-contains-clause-no c e _ = elim (cases_Bool c.has_before.result) [
