@@ -1,5 +1,3 @@
-use Rattle.std.proofs.Common.{sym}
-use Rattle.std.proofs.lemmas.Bool.{both_ways}
 use Rattle.ecf_judge.proofs.MembershipLaws.{again_only, again_several}
 use Rattle.ecf_judge.proofs.membership.is_known.Goals as goal
 

@@ -1,4 +1,3 @@
-use Rattle.std.proofs.Common.{true, refl}
 use Rattle.ecf_judge.proofs.ObjectLaws.{approved_few}
 use Rattle.ecf_judge.proofs.verdict.judge.Goals as goal
 
