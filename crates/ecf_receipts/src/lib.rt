@@ -1,5 +1,5 @@
 //! Prints a journal as text: the line that tells the version, a line for each entry, then the stop, `end` and the cells.
-//! The lines are those of both versions; a text of version 1 begins with its entries, each of one call.
+//! The lines are those of both versions. `print_journal` prints version 2; entries and tail alone are a text of version 1.
 //! Whatever number names nothing of the contract is spelled by no bytes.
 #![tactic(auto)]
 
@@ -62,7 +62,7 @@ pub fn print_tail(
     Ok(text)
 }
 
-/// The text of a whole journal of version 1: all lines of its entries, and what stands after them.
+/// The text of a whole journal of version 2: its first line, all lines of its entries, and what stands after them.
 pub fn print_journal(
     alloc: Global,
     typed: &Typed,
@@ -72,9 +72,9 @@ pub fn print_journal(
     cells: &[(Cell, u128)],
 ) -> Result<Vec<u8>, AllocError>
     ensures { IfOk result (λ text.
-        text.items ≡ journal_text 1 typed.now (map arc_value txs.now) entries.now stop cells.now) }
+        text.items ≡ journal_text 2 typed.now (map arc_value txs.now) entries.now stop cells.now) }
 {
-    let mut text = Vec::new(alloc);
+    let mut text = print_head(alloc)?;
     write_entries(alloc, &mut text, typed, txs, entries, 0)?;
     write_tail(&mut text, typed, stop, cells)?;
     Ok(text)

@@ -484,7 +484,8 @@ fn journals_are_printed_as_written_by_hand(rt: HostRuntime) -> Result<(), Fail> 
         let tail = tail_of(alloc, case.stop, case.cells)?;
         assert!(rt; tail.as_slice() == case.tail.as_bytes(), "{}", case.tail);
         let journal = journal_of(alloc, case)?;
-        let mut want = case.lines.concat(alloc)?;
+        let mut want = String::from_str(alloc, "journal 2\n")?;
+        want.push_str(case.lines.concat(alloc)?.as_str())?;
         want.push_str(case.tail)?;
         assert!(rt; journal.as_slice() == want.as_bytes(), "{want}");
     }
