@@ -40,7 +40,7 @@ pub struct Alone<'a, R: CellRead> {
 }
 
 /// Runs the invocations of an object alone, one after the other in the order that is named for it: each with its own
-/// arguments and its own fuel, its recorded answers in place of calls to other objects, on the fields that the one
+/// arguments and its own fuel, its recorded answers in place of external calls, on the fields that the one
 /// before left. They have to be those of a committed run that began with these fields in the object's cells. Each then
 /// does what it did. Fails only for want of memory.
 pub fn run_alone<'a, R: CellRead>(

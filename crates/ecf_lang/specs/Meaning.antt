@@ -66,7 +66,7 @@ abbrev pub or_revert : Result ℕ Cause → Part ℕ
 or_revert (Ok value) = pure value
 or_revert (Err cause) = revert cause
 
--- what the calls in a frame do: to a method of the own object by name and arguments; to another object's method by
+-- what the calls in a frame do: an internal one by method and arguments; an external one, to whichever object, by
 -- object, name and arguments; and the latter under a try, which gives 1 or 0
 pub record Opens : Type 0 where
   pub internal : ℕ → List ℕ → Part ℕ
@@ -253,7 +253,7 @@ pub record Ways : Type 0 where
   -- from the object to be called, a method by its name
   pub anew : ℕ → ℕ → List ℕ → Part ℕ
 
--- what the calls in a frame do: what a call to another object, or a try, gives is kept among the caller's answers
+-- what the calls in a frame do: what an external call, or a try, gives is kept among the caller's answers
 abbrev pub opens_of : Ways → ℕ → ℕ → Opens
 opens_of ways here inv = record {
   internal = λ name args. ways.within here inv name args;

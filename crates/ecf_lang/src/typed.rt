@@ -115,7 +115,7 @@ pub enum TypedStmt {
         ty: Ty,
         value: TypedExpr,
     },
-    /// Sets a local to whether a call to another object answered.
+    /// Sets a local to whether an external call (`call`, to whichever object) answered.
     Try {
         local: u8,
         target: TypedExpr,

@@ -67,7 +67,7 @@ pub fn run<'a, R: CellRead>(
 }
 
 /// Runs an invocation by itself on the fields of its object: with the arguments that it had, its own fuel as the limit,
-/// and its recorded answers in place of each call to another object. It runs out of fuel where an answer is missing.
+/// and its recorded answers in place of each external call. It runs out of fuel where an answer is missing.
 /// The steps are under its number; the writes rise by cell, and there are none unless it answered. Fails only for want
 /// of memory.
 pub fn run_one<'a, R: CellRead>(

@@ -6,7 +6,7 @@ ghost use Rattle.ecf_machine.specs.Setting.{can_open};
 use ecf_lang::typed::Typed;
 use std::alloc::Global;
 
-/// What a call to another object does, also under a try.
+/// What an external call does, also under a try.
 #[derive(Clone, Copy)]
 pub(crate) enum External<'a> {
     /// It opens an invocation.
@@ -15,7 +15,7 @@ pub(crate) enum External<'a> {
     Answers(&'a [u128]),
 }
 
-/// A contract, and what its calls to other objects do.
+/// A contract, and what its external calls do.
 #[derive(Drop)]
 pub(crate) struct Setting<'a> {
     pub(crate) alloc: Global,
