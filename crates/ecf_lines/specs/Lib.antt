@@ -1,5 +1,4 @@
 pub mod Line
-pub mod OneLine
 pub mod Spelled
 pub mod LineLaws
 pub mod Stream

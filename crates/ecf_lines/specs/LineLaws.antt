@@ -1,23 +1,14 @@
 -- What holds of every line.
-use Rattle.std.specs.Prelude.{◌≡◌, ℕ, List, length, Some, Ok}
+use Rattle.std.specs.Prelude.{◌≡◌, ℕ, List, Some, Ok}
 use Rattle.ecf_lang.specs.declared.typed.Typed.{Typed}
 use Rattle.ecf_lang.specs.declared.tx.Tx.{Tx}
 use Rattle.ecf_lang.specs.Fits.{Fits}
 use Rattle.ecf_lines.specs.Line.{line_of, IsNumbered}
-use Rattle.ecf_lines.specs.OneLine.{IsOneLine}
 use Rattle.ecf_lines.specs.Spelled.{SpellsTx}
 
 -- the transaction that a line says fits the contract
 abbrev pub LinesFit : Type 0
 LinesFit = (typed : Typed) (line : List ℕ) (tx : Tx) → IsNumbered typed → line_of typed line ≡ Ok (Some tx) → Fits typed tx
-
--- the transaction of a stream of one line fits the contract
-abbrev pub OneLineFits : Type 0
-OneLineFits = (typed : Typed) (bytes : List ℕ) (tx : Tx) → IsNumbered typed → IsOneLine typed bytes tx → Fits typed tx
-
--- and has one call
-abbrev pub OneLineCallsOnce : Type 0
-OneLineCallsOnce = (typed : Typed) (bytes : List ℕ) (tx : Tx) → IsOneLine typed bytes tx → length tx.calls ≡ 1
 
 -- the transaction that a line says is spelled by it
 abbrev pub SaidIsSpelled : Type 0

@@ -1,6 +1,6 @@
 //! What holds of every line, whoever reads it.
 
-ghost use Rattle.ecf_lines.specs.LineLaws.{LinesFit, OneLineFits, OneLineCallsOnce, SaidIsSpelled, SpelledIsSaid};
+ghost use Rattle.ecf_lines.specs.LineLaws.{LinesFit, SaidIsSpelled, SpelledIsSaid};
 
 /// The transaction that a line says fits the contract: its calls are few enough, their objects have the methods, and
 /// arguments and fuel limit are right.
@@ -13,10 +13,4 @@ pub fn lines_fit()
 pub fn lines_spell()
     ensures said { SaidIsSpelled }
     ensures spelled { SpelledIsSaid }
-{}
-
-/// The transaction of a stream of one line fits the contract and has one call.
-pub fn one_line_fits()
-    ensures fits { OneLineFits }
-    ensures call { OneLineCallsOnce }
 {}

@@ -1,6 +1,5 @@
 pub mod StreamFault
 pub mod Lookup
-pub mod OneLine
 pub mod Calls
 pub mod LineState
 pub mod LineReader

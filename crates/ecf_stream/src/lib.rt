@@ -7,7 +7,6 @@ mod line;
 mod line_reader;
 mod lookup;
 mod number;
-mod one_line;
 mod saying;
 mod stream_reader;
 
@@ -15,5 +14,4 @@ pub use fault::StreamFault;
 pub use line::{read_tx, read_tx_by};
 pub use line_reader::{Fed, LineReader};
 pub use lookup::Lookup;
-pub use one_line::read_one;
 pub use stream_reader::{Part, READ_BYTES, StreamReader};

@@ -2,7 +2,7 @@
 
 use crate::stream_contract::{contract, zeros_before};
 use ecf_lang::tx::Tx;
-use ecf_stream::{Lookup, StreamFault, read_one, read_tx, read_tx_by};
+use ecf_stream::{Lookup, StreamFault, read_tx, read_tx_by};
 use std::alloc::{AllocError, Global};
 use std::test::Fail;
 
@@ -143,39 +143,5 @@ fn a_submitter_may_begin_with_many_zeros(rt: HostRuntime) -> Result<(), Fail> {
     let alloc = rt.alloc();
     let said = said_behind(alloc, 4_000, "7 Counter bump 100")?;
     assert_eq!(rt; said.as_str(), "7 100 0.0");
-    Ok(())
-}
-
-/// Whether a text behind so many zeros is one line of one call.
-fn is_one_line(alloc: Global, zeros: usize, text: &str) -> Result<bool, AllocError> {
-    let typed = contract(alloc)?;
-    let bytes = zeros_before(alloc, zeros, text)?;
-    Ok(read_one(alloc, &typed, bytes.as_slice())?.is_some())
-}
-
-#[test]
-fn one_line_is_told(rt: HostRuntime) -> Result<(), Fail> {
-    // The line has 18 bytes before its CR or LF.
-    for (zeros, text, want) in [
-        (0, "1 Counter bump 100\n", true),
-        (0, "1 Counter bump 100\r\n", true),
-        (0, "1 Counter bump 100\r\r\n", false),
-        (0, "1 Counter bump 100", false),
-        (0, "1 Counter bump 100\n\n", false),
-        (0, "1 Counter bump 100 ; Counter bump\n", false),
-        (0, "# note\n", false),
-        (0, "1 Counter jump 100\n", false),
-        (0, "", false),
-        (4_078, "7 Counter bump 100\n", true),
-        (4_079, "7 Counter bump 100\n", false),
-        (4_077, "7 Counter bump 100\r\n", true),
-        (4_078, "7 Counter bump 100\r\n", false),
-    ] {
-        assert_eq!(rt;
-            is_one_line(rt.alloc(), zeros, text)?,
-            want,
-            "{zeros} {text}"
-        );
-    }
     Ok(())
 }
