@@ -1,4 +1,4 @@
-use Rattle.std.proofs.Common.{◌≡◌, ◌<◌, ℕ, Bool, not, find, length, get_or, None, refl, sym, ap, ◌∙◌, arith}
+use Rattle.std.proofs.Common.{◌<◌, ℕ, Bool, not, find, length, get_or, refl, sym, ap, ◌∙◌, arith}
 use Rattle.ecf_graph.specs.Rows.{is_in_row, those_in}
 use Rattle.ecf_graph.specs.Placement.{next_of, waits}
 use Rattle.ecf_graph.proofs.RoundLaws.{in_end, left_here, left_there}

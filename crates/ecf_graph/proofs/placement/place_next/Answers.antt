@@ -1,4 +1,4 @@
-use Rattle.std.proofs.Common.{◌≡◌, ◌==◌, ◌&&◌, not, ℕ, Bool, drop, refl, sym, ap, ◌∙◌}
+use Rattle.std.proofs.Common.{◌==◌, ◌&&◌, not, drop, refl, sym, ap, ◌∙◌}
 use Rattle.std.specs.List.{list_any}
 use Rattle.ecf_graph.specs.Placement.{without}
 use Rattle.ecf_graph.specs.Rows.{those_in}
