@@ -1,4 +1,4 @@
-use Rattle.std.proofs.Common.{◌≡◌, sym, ◌∙◌, arith}
+use Rattle.std.proofs.Common.{sym, ◌∙◌, arith}
 use Rattle.ecf_online.proofs.ClosureLaws.{Joins, no_row_has, ready_within, spread_near}
 use Rattle.ecf_online.proofs.reach.spread.Goals as goal
 
