@@ -1,29 +1,27 @@
 -- What a call comes to: the body in its own frame, with the tasks that lead back to the caller.
-use Rattle.std.proofs.Common.{◌≡◌, ℕ, zero, suc, ◌+◌, ◌-◌, ◌<◌, ◌≤◌, Bool, true, false, List, [], ◌∷◌, Option, Some, None, length, refl, ap, sym, ◌∙◌, arith}
+use Rattle.std.proofs.Common.{◌≡◌, ℕ, zero, suc, ◌-◌, ◌<◌, ◌≤◌, Bool, true, false, List, ◌∷◌, Option, Some, None, length, refl, ap, sym, ◌∙◌, arith}
 use Rattle.std.specs.Prelude.{nat_lt, if◌then◌else◌}
 use Rattle.std.proofs.lemmas.Bool.Decides.{nat_tests}
 use Rattle.ecf_lang.specs.declared.limits.TheConstants.{MAX_INVOCATIONS}
-use Rattle.ecf_lang.specs.declared.run.Cause.{Cause}
 use Rattle.ecf_lang.specs.declared.run.Cause.TheVariants.{NoMethod, Depth, Calls}
 use Rattle.ecf_lang.specs.declared.tx.TxCall.{TxCall}
 use Rattle.ecf_lang.specs.declared.typed.TypedMethod.{TypedMethod}
 use Rattle.ecf_lang.specs.Store.{Store}
 use Rattle.ecf_lang.specs.Fits.{method_at}
 use Rattle.ecf_lang.specs.Part.{State, Control, Done, Exit, Reverts, RunsOut, Part, after, ◌>>=◌, ◌>>◌, pure, revert, begin, note, with_answer, with_heard, attempt_of}
-use Rattle.ecf_lang.specs.Meaning.{Frame, Flow, Continues, Returns, flow_answer, body_of, block_of, locals_of, ways, opens_of, frame_of, invoke}
+use Rattle.ecf_lang.specs.Meaning.{Frame, Flow, Continues, Returns, flow_answer, body_of, block_of, locals_of, ways, frame_of, invoke}
 use Rattle.ecf_lang.specs.Alone.{next_answer}
-use Rattle.ecf_lang.specs.Forms.{anew_is, within_is}
+use Rattle.ecf_lang.specs.Forms.{within_is}
 use Rattle.std.specs.Borrow.{Bor}
-use Rattle.ecf_machine.specs.Segments.{pushed, with_top}
-use Rattle.ecf_machine.specs.Progress.{with_savepoint}
+use Rattle.ecf_progress.specs.Segments.{pushed, with_top}
+use Rattle.ecf_progress.specs.Progress.{with_savepoint}
 use Rattle.ecf_machine.specs.Returns.{IsReturn}
-use Rattle.ecf_machine.specs.Parts.{Context, opens_by, opens_at, lone_internal, frame_at, call_in, calls_in, invoke_at, anew_at}
-use Rattle.ecf_machine.specs.Continuations.{Continuation, blank, resume, resume_flow, above, continuation_of}
+use Rattle.ecf_machine.specs.Parts.{Context, opens_by, opens_at, lone_internal, frame_at, calls_in, invoke_at, anew_at}
+use Rattle.ecf_machine.specs.Continuations.{Continuation, resume, resume_flow, above, continuation_of}
 use Rattle.ecf_machine.specs.declared.setting.Setting.{Setting}
 use Rattle.ecf_machine.specs.declared.setting.External.{External}
 use Rattle.ecf_machine.specs.declared.setting.External.TheVariants as external
-use Rattle.ecf_machine.specs.declared.task.Callee.TheVariants as callee
-use Rattle.ecf_machine.specs.declared.task.OpenFrame.{OpenFrame}
+use Rattle.ecf_progress.specs.declared.frame.OpenFrame.{OpenFrame}
 use Rattle.ecf_machine.specs.declared.task.Task.{Task}
 use Rattle.ecf_machine.specs.declared.task.Task.TheVariants as task
 

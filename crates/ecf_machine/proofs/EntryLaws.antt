@@ -10,19 +10,19 @@ use Rattle.ecf_lang.specs.declared.tx.TxCall.{TxCall}
 use Rattle.ecf_lang.specs.declared.typed.Typed.{Typed}
 use Rattle.ecf_lang.specs.Store.{Store}
 use Rattle.ecf_lang.specs.Fits.{method_at}
-use Rattle.ecf_lang.specs.Part.{State, Control, Done, Exit, Reverts, RunsOut, after, pure, begin}
+use Rattle.ecf_lang.specs.Part.{State, Control, Done, Exit, Reverts, RunsOut, after, begin}
 use Rattle.ecf_lang.specs.Meaning.{body_of, ways, calls_of, initial_state, result_of, kept_run, run}
 use Rattle.ecf_lang.specs.Alone.{inside, by_itself, alone, lone_of}
 use Rattle.std.specs.Borrow.{Bor}
-use Rattle.ecf_machine.specs.Outcomes.{outcome_at, IsLone}
+use Rattle.ecf_progress.specs.Outcomes.{outcome_at, IsLone}
 use Rattle.ecf_machine.specs.Parts.{Context, lone_opens, lone_internal, opens_by, opens_at, anew_at, call_in, calls_in}
 use Rattle.ecf_machine.specs.Continuations.{resume, continuation_of, without_args, context_in, from_call, from_doing}
 use Rattle.ecf_machine.specs.Initial.{initial_machine}
-use Rattle.ecf_machine.specs.declared.lone.Lone.{Lone}
+use Rattle.ecf_progress.specs.declared.lone.Lone.{Lone}
 use Rattle.ecf_machine.specs.declared.setting.Setting.{Setting}
 use Rattle.ecf_machine.specs.declared.setting.External.TheVariants as external
 use Rattle.ecf_machine.specs.declared.task.Callee.TheVariants as callee
-use Rattle.ecf_machine.specs.declared.task.OpenFrame.{OpenFrame}
+use Rattle.ecf_progress.specs.declared.frame.OpenFrame.{OpenFrame}
 use Rattle.ecf_machine.specs.declared.task.Task.{Task}
 use Rattle.ecf_machine.specs.declared.task.Task.TheVariants as task
 use Rattle.ecf_machine.specs.declared.task.Doing.TheVariants as doing

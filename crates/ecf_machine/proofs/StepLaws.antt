@@ -1,5 +1,5 @@
 -- What each step leaves to give, in the words of the meaning.
-use Rattle.std.proofs.Common.{◌≡◌, ℕ, zero, suc, ◌+◌, ◌<◌, ◌≤◌, true, false, List, [], ◌∷◌, length, get_or, drop, Option, None, Result, Ok, Err, refl, ap, sym, ◌∙◌, arith}
+use Rattle.std.proofs.Common.{◌≡◌, ℕ, zero, suc, ◌<◌, ◌≤◌, true, false, List, [], ◌∷◌, length, get_or, drop, Option, None, Result, Ok, Err, refl, ap, sym, ◌∙◌, arith}
 use Rattle.std.specs.Prelude.{IfOk, option_and_then}
 use Rattle.std.specs.Borrow.{Bor}
 use Rattle.std.proofs.lemmas.Option.{slice_get_past}
@@ -15,14 +15,14 @@ use Rattle.ecf_lang.specs.declared.typed.TypedCall.TheVariants as call
 use Rattle.ecf_lang.specs.declared.typed.TypedStmt.{TypedStmt, TypedStmt-F, out-TypedStmt, roll-TypedStmt, roll-out-TypedStmt}
 use Rattle.ecf_lang.specs.declared.typed.TypedStmt.TheVariants as stmt
 use Rattle.ecf_lang.specs.declared.typed.TypedBlock.{TypedBlock, out-TypedBlock}
-use Rattle.ecf_lang.specs.Part.{State, Control, Done, Exit, Reverts, RunsOut, Part, after, ◌>>=◌, pure, pay}
-use Rattle.ecf_lang.specs.Meaning.{Flow, Continues, Returns, go_on, turns, at_zero}
+use Rattle.ecf_lang.specs.Part.{State, Control, Done, Exit, Reverts, RunsOut, Part, after, pay}
+use Rattle.ecf_lang.specs.Meaning.{Flow, Continues, Returns, go_on, turns}
 use Rattle.ecf_lang.specs.declared.typed.Typed.{Typed}
 use Rattle.ecf_lang.specs.Fits.{method_at, method_of}
 use Rattle.ecf_lang.specs.Forms.{value_map_at, value_not, value_product, value_sum, value_compare, answer_external, answer_internal, stmt_let, stmt_try, stmt_set, stmt_set_at, stmt_while, stmt_return, stmt_revert, stmt_do, stmt_if, block_is}
 use Rattle.ecf_machine.specs.Parts.{Context, Valued, Acting, frame_in, value_in, all_in, any_in, stmt_in, stmts_of, stmts_in, block_in, answer_in, turns_of, turns_in, branch_in, chosen_in, tested_in, keyed_in, loop_in, try_in, args_in}
-use Rattle.ecf_machine.specs.Continuations.{Continuation, with_locals, blank, resume, resume_flow, above, from_doing}
-use Rattle.ecf_machine.specs.Load.{size_of, measure}
+use Rattle.ecf_machine.specs.Continuations.{Continuation, blank, resume, resume_flow, above, from_doing}
+use Rattle.ecf_machine.specs.Load.{measure}
 use Rattle.ecf_machine.specs.Steps.{Advances, Follows}
 use Rattle.ecf_machine.specs.Setting.{CanNumber}
 use Rattle.ecf_machine.specs.declared.setting.Setting.{Setting}

@@ -3,16 +3,14 @@ use Rattle.std.specs.Prelude.{ℕ, List, [], ◌∷◌, ◌++◌, slice_set}
 use Rattle.ecf_lang.specs.declared.run.Cause.{Cause}
 use Rattle.ecf_lang.specs.declared.run.Cause.TheVariants.{User}
 use Rattle.ecf_lang.specs.declared.typed.TypedExpr.{TypedExpr}
-use Rattle.ecf_lang.specs.declared.typed.TypedStmt.{TypedStmt}
-use Rattle.ecf_lang.specs.Part.{State, Control, Done, Exit, Reverts, RunsOut, Part, ◌>>=◌, with_change, with_heard, with_answer}
+use Rattle.ecf_lang.specs.Part.{Control, Done, Exit, Reverts, RunsOut, Part, ◌>>=◌, with_change, with_heard, with_answer}
 use Rattle.ecf_lang.specs.Meaning.{Flow, Continues, Returns}
-use Rattle.ecf_machine.specs.Segments.{popped, with_top}
-use Rattle.ecf_machine.specs.Progress.{without_savepoint, undone_to}
-use Rattle.ecf_machine.specs.Outcomes.{outcome_at}
+use Rattle.ecf_progress.specs.Segments.{popped, with_top}
+use Rattle.ecf_progress.specs.Progress.{without_savepoint, undone_to}
+use Rattle.ecf_progress.specs.Outcomes.{outcome_at}
 use Rattle.ecf_machine.specs.Parts.{Context, Valued, Acting, value_in, chain_in, further_in, fetch_in, not_in, compared_in, all_in, any_in, args_in, callee_of, assign_in, put_in, chosen_in, tested_in, turns_in, stmts_in, calls_in}
 use Rattle.ecf_machine.specs.declared.setting.Setting.{Setting}
-use Rattle.ecf_machine.specs.declared.task.Callee.{Callee}
-use Rattle.ecf_machine.specs.declared.task.OpenFrame.{OpenFrame}
+use Rattle.ecf_progress.specs.declared.frame.OpenFrame.{OpenFrame}
 use Rattle.ecf_machine.specs.declared.task.Task.{Task}
 use Rattle.ecf_machine.specs.declared.task.Task.TheVariants as task
 use Rattle.ecf_machine.specs.declared.task.Doing.{Doing}

@@ -2,7 +2,7 @@
 use Rattle.std.specs.Prelude.{ℕ, []}
 use Rattle.ecf_lang.specs.Store.{Store}
 use Rattle.ecf_lang.specs.Meaning.{initial_state}
-use Rattle.ecf_machine.specs.declared.task.OpenFrame.{OpenFrame}
+use Rattle.ecf_progress.specs.declared.frame.OpenFrame.{OpenFrame}
 use Rattle.ecf_machine.specs.declared.machine.Machine.{Machine}
 
 -- a run of that fuel before its first step, in that frame and with nothing that waits

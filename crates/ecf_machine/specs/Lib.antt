@@ -1,13 +1,7 @@
-pub mod Charges
 pub mod Continuations
 pub mod Initial
 pub mod Load
-pub mod Outcomes
 pub mod Parts
-pub mod Progress
-pub mod ReadCells
 pub mod Returns
-pub mod Segments
 pub mod Setting
 pub mod Steps
-pub mod Undo

@@ -18,14 +18,14 @@ use Rattle.ecf_lang.specs.Fits.{method_at}
 use Rattle.ecf_lang.specs.Part.{Part, ◌>>=◌, ◌>>◌, pure, revert, write_cell, begin, note, with_answer}
 use Rattle.ecf_lang.specs.Meaning.{Opens, Frame, Flow, Continues, Action, charge, fetch, own_cell, name_value, answer_of, first_then, chain, all_true, any_true, each, at_zero, or_revert, op_value, value_of, stmt_of, block_of, sequence, go_on, branch, turns, assign, body_of, ways, opens_of}
 use Rattle.ecf_lang.specs.Alone.{next_answer}
-use Rattle.ecf_machine.specs.Segments.{Lists}
-use Rattle.ecf_machine.specs.Progress.{Backing}
+use Rattle.ecf_progress.specs.Segments.{Lists}
+use Rattle.ecf_progress.specs.Progress.{Backing}
 use Rattle.ecf_machine.specs.declared.setting.Setting.{Setting}
 use Rattle.ecf_machine.specs.declared.setting.External.{External}
 use Rattle.ecf_machine.specs.declared.setting.External.TheVariants as external
 use Rattle.ecf_machine.specs.declared.task.Callee.{Callee}
 use Rattle.ecf_machine.specs.declared.task.Callee.TheVariants as callee
-use Rattle.ecf_machine.specs.declared.task.OpenFrame.{OpenFrame}
+use Rattle.ecf_progress.specs.declared.frame.OpenFrame.{OpenFrame}
 
 -- what calls do in an invocation alone, where internal calls do so
 abbrev pub lone_opens : List ℕ → (ℕ → List ℕ → Part ℕ) → Opens

@@ -1,5 +1,5 @@
 -- Where a frame ends.
-use Rattle.std.specs.Prelude.{List, [], ◌∷◌}
+use Rattle.std.specs.Prelude.{List, ◌∷◌}
 use Rattle.ecf_machine.specs.declared.task.Task.{Task}
 use Rattle.ecf_machine.specs.declared.task.Task.TheVariants as task
 

@@ -5,7 +5,7 @@ ghost use Rattle.ecf_lang.specs.Alone.{next_answer};
 ghost use Rattle.ecf_machine.specs.Continuations.{from_call, from_part};
 ghost use Rattle.ecf_machine.specs.Load.{args_size, calls_size};
 ghost use Rattle.ecf_machine.specs.Parts.{anew_in, args_in, call_charge, call_in, callee_of, calls_in, entry_in, next_in};
-ghost use Rattle.ecf_machine.specs.Segments.{popped, pushed};
+ghost use Rattle.ecf_progress.specs.Segments.{popped, pushed};
 ghost use Rattle.ecf_machine.specs.Returns.{IsReturn};
 ghost use Rattle.ecf_machine.specs.Setting.{CanNumber};
 ghost use Rattle.ecf_machine.specs.Steps.{Charges, Follows, Goes};
@@ -13,13 +13,14 @@ ghost use Rattle.ecf_machine.specs.declared.task.Callee.TheVariants as callee;
 
 use crate::machine::Machine;
 use crate::setting::{External, Setting};
-use crate::task::{Callee, Doing, OpenFrame, Task};
+use crate::task::{Callee, Doing, Task};
 use ecf_lang::cell::CellRead;
 use ecf_lang::costs::{EXTERNAL_CALL, INTERNAL_CALL};
 use ecf_lang::limits::MAX_INVOCATIONS;
 use ecf_lang::run::{Cause, Outcome};
 use ecf_lang::tx::TxCall;
 use ecf_lang::typed::TypedExpr;
+use ecf_progress::OpenFrame;
 use sqlite_items::Items;
 use std::alloc::AllocError;
 

@@ -5,17 +5,12 @@ ghost use Rattle.std.specs.Prelude.{◌≡◌, ◌≤◌, length, IfOk};
 ghost use Rattle.ecf_lang.specs.declared.limits.TheConstants.{MAX_OBJECTS};
 ghost use Rattle.ecf_lang.specs.Alone.{alone};
 ghost use Rattle.ecf_lang.specs.Meaning.{kept_run, run as meaning_of};
-ghost use Rattle.ecf_machine.specs.Outcomes.{IsLone};
+ghost use Rattle.ecf_progress.specs.Outcomes.{IsLone};
 
 mod calls;
 mod expressions;
-mod lone;
 mod machine;
-mod reads;
-mod segments;
 mod setting;
-mod stack;
-mod state;
 mod statements;
 mod task;
 
@@ -24,12 +19,13 @@ use ecf_lang::limits::MAX_FRAMES;
 use ecf_lang::run::{Invocation, Run};
 use ecf_lang::tx::Tx;
 use ecf_lang::typed::Typed;
-pub use lone::Lone;
+pub use ecf_progress::Lone;
+use ecf_progress::OpenFrame;
 use machine::Machine;
 use setting::{External, Setting};
 use sqlite_items::Items;
 use std::alloc::{AllocError, Global};
-use task::{Doing, OpenFrame, Task};
+use task::{Doing, Task};
 
 /// Runs a transaction on a contract and a store, which stays as it is: the run says what was read and what is to be
 /// written. The reads stand in the order of first read, the writes rise by cell, and there are none unless the run
@@ -53,7 +49,7 @@ pub fn run<'a, R: CellRead>(
         inv: 0,
         room: MAX_FRAMES,
     };
-    let mut machine = Machine::new(alloc, store, tx.fuel, frame);
+    let mut machine = Machine::new(alloc, store, tx.fuel, frame)?;
     machine.tasks.push(Task::Calls(tx.calls.as_slice()))?;
     let outcome = machine.finish(&setting, Doing::Give(0))?;
     let Machine {
@@ -89,7 +85,7 @@ pub fn run_one<'a, R: CellRead>(
         inv: 0,
         room: MAX_FRAMES,
     };
-    let mut machine = Machine::new(alloc, store, invocation.own_fuel, frame);
+    let mut machine = Machine::new(alloc, store, invocation.own_fuel, frame)?;
     let args = Items::from_slice(alloc, invocation.args.as_slice())?;
     machine
         .state

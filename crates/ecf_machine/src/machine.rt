@@ -4,18 +4,19 @@ ghost use Rattle.std.specs.Prelude.{◌≡◌, ◌+◌, IfOk};
 ghost use Rattle.ecf_machine.specs.Initial.{initial_machine};
 ghost use Rattle.ecf_machine.specs.Continuations.{from_answer, from_doing, from_revert, from_task, from_value};
 ghost use Rattle.ecf_machine.specs.Load.{task_size};
-ghost use Rattle.ecf_machine.specs.Outcomes.{outcome_at};
-ghost use Rattle.ecf_machine.specs.Segments.{popped};
+ghost use Rattle.ecf_progress.specs.Outcomes.{outcome_at};
+ghost use Rattle.ecf_progress.specs.Segments.{popped};
 ghost use Rattle.ecf_machine.specs.Steps.{Goes};
 
-use crate::segments::Segments;
 use crate::setting::Setting;
-use crate::stack::Stack;
-use crate::state::RunState;
-use crate::task::{Doing, OpenFrame, Task};
+use crate::task::{Doing, Task};
 use ecf_lang::cell::CellRead;
 use ecf_lang::run::{Cause, Outcome};
+use ecf_progress::{OpenFrame, RunState, Segments, Stack};
 use std::alloc::{AllocError, Global};
+
+/// So many tasks wait in most runs at most.
+const FIRST_TASKS: usize = 12;
 
 /// The state of a run with its stacks.
 #[derive(Drop)]
@@ -31,16 +32,21 @@ pub(crate) struct Machine<'a, R: CellRead> {
 
 impl<'a, R: CellRead> Machine<'a, R> {
     /// A machine before its first step, in a frame and with nothing that waits.
-    pub(crate) fn new(alloc: Global, store: &'a R, fuel: u32, frame: OpenFrame) -> Machine<'a, R>
-        ensures { result ≡ initial_machine (R.store store.now) fuel frame }
+    pub(crate) fn new(
+        alloc: Global,
+        store: &'a R,
+        fuel: u32,
+        frame: OpenFrame,
+    ) -> Result<Machine<'a, R>, AllocError>
+        ensures { IfOk result (λ machine. machine ≡ initial_machine (R.store store.now) fuel frame) }
     {
-        Machine {
-            state: RunState::new(alloc, store, fuel),
+        Ok(Machine {
+            state: RunState::new(alloc, store, fuel)?,
             frame,
             locals: Segments::new(alloc),
             args: Segments::new(alloc),
-            tasks: Stack::new(alloc),
-        }
+            tasks: Stack::with_capacity(alloc, FIRST_TASKS)?,
+        })
     }
 
     /// Does all that is to come. Between two charges less is to do after each step.

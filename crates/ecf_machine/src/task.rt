@@ -4,16 +4,7 @@ use ecf_lang::run::{Cause, Outcome};
 use ecf_lang::tree::Op;
 use ecf_lang::tx::TxCall;
 use ecf_lang::typed::{Assignee, TypedBlock, TypedExpr, TypedStmt};
-
-/// A frame that is open.
-#[derive(Clone, Copy)]
-pub(crate) struct OpenFrame {
-    pub(crate) object: u8,
-    /// The number of the invocation that it belongs to.
-    pub(crate) inv: u16,
-    /// How many more frames may be open.
-    pub(crate) room: usize,
-}
+use ecf_progress::OpenFrame;
 
 /// What is called, its method by the number of the name.
 #[derive(Clone, Copy)]

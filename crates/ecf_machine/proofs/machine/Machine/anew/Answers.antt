@@ -4,9 +4,9 @@ use Rattle.ecf_lang.specs.Part.{Done, begin}
 use Rattle.ecf_lang.specs.Meaning.{locals_of, block_of}
 use Rattle.ecf_machine.specs.Parts.{frame_at, anew_at}
 use Rattle.ecf_machine.specs.Load.{load}
-use Rattle.ecf_machine.specs.Segments.{with_top}
+use Rattle.ecf_progress.specs.Segments.{with_top}
 use Rattle.ecf_machine.specs.Continuations.{continuation_of, context_in, resume, resume_flow, above}
-use Rattle.ecf_machine.specs.declared.task.OpenFrame.{OpenFrame}
+use Rattle.ecf_progress.specs.declared.frame.OpenFrame.{OpenFrame}
 use Rattle.ecf_machine.specs.declared.task.Task.TheVariants as task
 use Rattle.ecf_machine.proofs.StepLaws.{beyond}
 use Rattle.ecf_machine.proofs.CallLaws.{anew_deep, anew_full, anew_missing, anew_opened, answered_back}

@@ -1,4 +1,4 @@
-use Rattle.std.proofs.Common.{◌≡◌, ap, sym, ◌∙◌, arith}
+use Rattle.std.proofs.Common.{ap, sym, ◌∙◌, arith}
 use Rattle.ecf_machine.specs.Continuations.{continuation_of, context_in}
 use Rattle.ecf_machine.specs.declared.task.Task.TheVariants as task
 use Rattle.ecf_machine.proofs.StepLaws.{advances_from, waiting, or_further}

@@ -1,9 +1,9 @@
-use Rattle.std.proofs.Common.{◌≡◌, false, ap, sym, ◌∙◌, arith}
+use Rattle.std.proofs.Common.{false, ap, sym, ◌∙◌, arith}
 use Rattle.ecf_lang.specs.declared.typed.TypedCall.TheVariants as call
 use Rattle.ecf_machine.specs.Parts.{answer_in, args_in}
 use Rattle.ecf_machine.specs.Continuations.{continuation_of, context_in, resume, from_part, from_wait}
 use Rattle.ecf_machine.specs.Load.{size_of, call_size, args_size}
-use Rattle.ecf_machine.specs.Segments.{popped}
+use Rattle.ecf_progress.specs.Segments.{popped}
 use Rattle.ecf_machine.specs.declared.task.Callee.TheVariants as callee
 use Rattle.ecf_machine.specs.declared.task.Task.TheVariants as task
 use Rattle.ecf_machine.proofs.SizeLaws.{size_external, size_internal}

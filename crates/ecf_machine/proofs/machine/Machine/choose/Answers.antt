@@ -1,4 +1,4 @@
-use Rattle.std.proofs.Common.{◌≡◌, [], None, Some, ap, sym, ◌∙◌, arith}
+use Rattle.std.proofs.Common.{[], ap, sym, ◌∙◌, arith}
 use Rattle.ecf_lang.specs.Forms.{block_is}
 use Rattle.ecf_machine.specs.Parts.{frame_in, branch_in, stmts_in}
 use Rattle.ecf_machine.specs.Continuations.{continuation_of, context_in, resume_flow, from_action}

@@ -1,4 +1,4 @@
-use Rattle.std.proofs.Common.{◌≡◌, ap, sym, ◌∙◌, arith}
+use Rattle.std.proofs.Common.{ap, sym, ◌∙◌, arith}
 use Rattle.ecf_machine.specs.Parts.{stmts_in}
 use Rattle.ecf_machine.specs.Continuations.{continuation_of, context_in, resume_flow, from_action}
 use Rattle.ecf_machine.proofs.StepLaws.{chosen_block}

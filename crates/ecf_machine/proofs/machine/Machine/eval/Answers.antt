@@ -2,7 +2,7 @@ use Rattle.std.proofs.Common.{◌≡◌, Bool, true, false, refl, ap, sym, ◌�
 use Rattle.ecf_lang.specs.declared.typed.TypedExpr.TheVariants as expr
 use Rattle.ecf_lang.specs.Forms.{value_number, value_flag, value_here, value_name, value_call, value_and, value_or}
 use Rattle.ecf_lang.specs.Meaning.{flag_of}
-use Rattle.ecf_machine.specs.Parts.{constant_in, frame_in, value_in, first_all_in, first_any_in}
+use Rattle.ecf_machine.specs.Parts.{constant_in, frame_in, value_in}
 use Rattle.ecf_machine.specs.Continuations.{continuation_of, context_in, resume, from_part, from_wait}
 use Rattle.ecf_machine.specs.Load.{size_of, parts_size, args_size}
 use Rattle.ecf_machine.specs.declared.task.Task.TheVariants as task

@@ -1,4 +1,4 @@
-use Rattle.std.proofs.Common.{◌≡◌, ◌∷◌, refl, ap, sym, ◌∙◌, arith}
+use Rattle.std.proofs.Common.{refl, ap, ◌∙◌, arith}
 use Rattle.ecf_machine.specs.Parts.{anew_at}
 use Rattle.ecf_machine.specs.Continuations.{continuation_of, context_in, without_args, resume}
 use Rattle.ecf_machine.proofs.StepLaws.{advances_from}

@@ -1,10 +1,9 @@
-use Rattle.std.proofs.Common.{◌≡◌, ◌-◌, ◌++◌, length, refl, ap, sym, ◌∙◌, arith}
-use Rattle.std.specs.Prelude.{replicate}
+use Rattle.std.proofs.Common.{◌-◌, refl, ap, sym, ◌∙◌}
 use Rattle.ecf_lang.specs.Forms.{block_is}
 use Rattle.ecf_lang.specs.Fits.{method_at}
 use Rattle.ecf_lang.specs.Meaning.{locals_of, block_of}
 use Rattle.ecf_machine.specs.Parts.{frame_at}
-use Rattle.ecf_machine.specs.Segments.{pushed, popped}
+use Rattle.ecf_progress.specs.Segments.{pushed, popped}
 use Rattle.ecf_machine.specs.Continuations.{continuation_of, context_in, without_args, resume, resume_flow, above}
 use Rattle.ecf_machine.specs.declared.task.Task.TheVariants as task
 use Rattle.ecf_machine.proofs.StepLaws.{follows}

@@ -1,4 +1,4 @@
-use Rattle.std.proofs.Common.{◌≡◌, ◌≤◌, ℕ, ap, sym, ◌∙◌, arith}
+use Rattle.std.proofs.Common.{ap, sym, ◌∙◌, arith}
 use Rattle.ecf_machine.specs.Parts.{stmt_in, answer_in, branch_in, keyed_in, loop_in, try_in}
 use Rattle.ecf_machine.specs.Continuations.{continuation_of, context_in, resume_flow, from_action}
 use Rattle.ecf_machine.specs.declared.task.Task.TheVariants as task

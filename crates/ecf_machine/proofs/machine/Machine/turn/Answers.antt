@@ -1,4 +1,4 @@
-use Rattle.std.proofs.Common.{◌≡◌, refl, ap, sym, ◌∙◌, arith}
+use Rattle.std.proofs.Common.{refl, ◌∙◌, arith}
 use Rattle.ecf_machine.specs.Continuations.{continuation_of, context_in}
 use Rattle.ecf_machine.proofs.StepLaws.{begin_turn}
 use Rattle.ecf_machine.proofs.machine.Machine.turn.Goals as goal

@@ -1,0 +1,4 @@
+mod ReadLaws
+mod SegmentLaws
+mod StateSteps
+mod UndoLaws

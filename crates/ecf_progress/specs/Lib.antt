@@ -1,0 +1,6 @@
+pub mod Charges
+pub mod Outcomes
+pub mod Progress
+pub mod ReadCells
+pub mod Segments
+pub mod Undo
