@@ -1,0 +1,5 @@
+pub mod TextLaws
+pub mod ExpressionLaws
+pub mod StatementLaws
+pub mod FileLaws
+pub mod CaseLaws
