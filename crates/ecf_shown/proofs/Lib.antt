@@ -1,0 +1,11 @@
+pub mod NumberLaws
+pub mod FrontLaws
+pub mod CutLaws
+pub mod SayLaws
+pub mod PlaceForms
+pub mod HeightLaws
+pub mod ExpressionLaws
+pub mod StatementLaws
+pub mod FileLaws
+pub mod ReadBackLaws
+pub mod PlaceLaws
