@@ -428,6 +428,20 @@ fn a_fault_is_told_in_the_first_object_and_in_the_last(rt: HostRuntime) -> Resul
 }
 
 #[test]
+fn two_signatures_are_told_in_the_second_object_and_in_the_last(
+    rt: HostRuntime,
+) -> Result<(), Fail> {
+    let alloc = rt.alloc();
+    let first = "object O { method m(): num { } } ";
+    let other = "object P { method @m(): flag { } } ";
+    let both = format!(in alloc; "{first}{other}")?;
+    let second = repeated(alloc, both.as_str(), OBJECT, MAX_OBJECTS - 2, "")?;
+    expect(&rt, alloc, second.as_str(), What::TwoSignatures)?;
+    let last = repeated(alloc, first, OBJECT, MAX_OBJECTS - 2, other)?;
+    expect(&rt, alloc, last.as_str(), What::TwoSignatures)
+}
+
+#[test]
 fn a_form_has_numbers_for_names(rt: HostRuntime) -> Result<(), Fail> {
     let alloc = rt.alloc();
     let text =

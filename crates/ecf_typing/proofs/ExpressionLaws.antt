@@ -22,7 +22,7 @@ use Rattle.ecf_faults.specs.declared.Fault.{Fault}
 use Rattle.ecf_faults.specs.Tables.{Table, Surroundings, declaration_of}
 use Rattle.ecf_faults.specs.declared.Referent.{Referent}
 use Rattle.ecf_faults.specs.Least.{least_with}
-use Rattle.ecf_faults.specs.Expressions.{Report, report_of, call_report_of, faults_for, own_method, first_place, map_faults, key_type, value_type, arity_faults, parameter_types, argument_faults, call_faults, answer_type, map_number, method_number, type_faults, referent, referent_of, referent_faults, referent_type, referent_form, left_side_type, right_side_type}
+use Rattle.ecf_faults.specs.Expressions.{Report, report_of, call_report_of, faults_for, own_method, first_place, map_faults, key_type, value_type, arity_faults, parameter_types, argument_faults, call_faults, answer_type, map_number, method_number, type_faults, referent, referent_faults, referent_type, referent_form, left_side_type, right_side_type}
 use Rattle.ecf_faults.specs.Forms.{report_number, report_name, report_not, report_sum, report_compare, report_call, report_flag, report_here, report_at, report_product, report_and, report_or, report_external, report_internal}
 use Rattle.ecf_typing.specs.declared.form.Summary.{Summary}
 use Rattle.ecf_typing.specs.Summaries.{summary_of, plain_summary, Summarizes, SummarizesFor}
@@ -46,12 +46,6 @@ found_seen f [] name = refl
 found_seen f (e ∷ table) name =
     elim (bytes_eq name e.0) as (λ b. cond b (Some (f e.1)) (declaration_of (map (λ e. (e.0, f e.1)) table) name) ≡ option_map f (cond b (Some e.1) (declaration_of table name)))
     [ true ↦ refl | false ↦ found_seen f table name ]
-
--- what a name stands for, by three look-ups
-pub referent_by : (s : Surroundings) (v : Table (ℕ × Ty)) (name n : List ℕ) (a : Option (ℕ × Ty)) (b : Option (ℕ × FieldKind)) (d : Option (ℕ × ℕ)) (r : Referent) → n ≡ name → a ≡ declaration_of v n → b ≡ declaration_of s.own n → d ≡ declaration_of s.objects n → r ≡ referent_of a b d → r ≡ referent s v name
-referent_by s v name n a b d r is a_is b_is d_is r_is =
-    r_is ∙ ap (λ x. referent_of x b d) a_is ∙ ap (λ x. referent_of (declaration_of v n) x d) b_is
-    ∙ ap (λ x. referent_of (declaration_of v n) (declaration_of s.own n) x) d_is ∙ ap (referent s v) is
 
 -- one more argument
 needs_at : (i : ℕ) (tys : List Ty) (x : Report TypedExpr) (xs : List (Report TypedExpr)) → argument_faults (drop i tys) (x ∷ xs) ≡ faults_for (slice_get tys i) x ++ argument_faults (drop (suc i) tys) xs

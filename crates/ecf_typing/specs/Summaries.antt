@@ -1,16 +1,24 @@
 -- What going through an expression tells of it.
-use Rattle.std.specs.Prelude.{◌≡◌, ℕ, Option, Some}
+use Rattle.std.specs.Prelude.{◌≡◌, ℕ, ◌^◌, Option, None, Some}
 use Rattle.ecf_lang.specs.declared.tree.Expr.{Expr}
 use Rattle.ecf_lang.specs.declared.tree.CallExpr.{CallExpr}
 use Rattle.ecf_lang.specs.declared.tree.Ty.{Ty}
 use Rattle.ecf_lang.specs.declared.typed.TypedExpr.{TypedExpr}
 use Rattle.ecf_lang.specs.declared.typed.TypedCall.{TypedCall}
 use Rattle.ecf_faults.specs.declared.Fault.{Fault}
+use Rattle.ecf_faults.specs.declared.Referent.{Referent}
+use Rattle.ecf_faults.specs.declared.Referent.TheVariants.{Object}
+use Rattle.ecf_faults.specs.Tables.{number_below}
 use Rattle.ecf_faults.specs.Expressions.{Report, report_of, call_report_of, faults_for}
 use Rattle.ecf_faults.specs.Least.{least_with}
 use Rattle.ecf_typing.specs.declared.form.Summary.{Summary}
 use Rattle.ecf_typing.specs.declared.expression.Sight.{Sight}
 use Rattle.ecf_typing.specs.Views.{contents_of, view_of}
+
+-- an object, where one is found; else what is given
+abbrev pub object_else : Referent → Option (ℕ × ℕ) → Referent
+object_else other (Some (object, token)) = Object (number_below (2 ^ 8) object)
+object_else other None = other
 
 -- a report without its faults
 abbrev pub summary_of : {Form : Type 0} → Report Form → Summary Form

@@ -12,7 +12,7 @@ use Rattle.ecf_typing.specs.declared.reference.MethodTypes.{MethodTypes}
 use Rattle.ecf_lang.specs.declared.typed.Signature.{Signature}
 
 abbrev pub contents_of : {A : Type 0} → NameMap A → Table A
-contents_of names = map (λ e. (e.0.now, e.1)) names.entries.entries
+contents_of names = map (λ e. (e.0.bytes.now, e.1)) names.entries.entries
 
 -- a method's number and signature
 abbrev pub signature_view : MethodTypes → ℕ × Signature

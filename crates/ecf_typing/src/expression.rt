@@ -1,14 +1,15 @@
 //! Goes through expressions and calls: their faults are noted, and their numbered forms made.
 
-ghost use Rattle.std.specs.Prelude.{◌≡◌, map, IfOk, OnOk, Some};
+ghost use Rattle.std.specs.Prelude.{◌≡◌, map, IfOk, OnOk, None, Some};
 ghost use Rattle.std.specs.List.{flat_map};
 ghost use Rattle.std.specs.Option.{option_map};
 ghost use Rattle.ecf_lang.specs.declared.tree.Ty.TheVariants.{Num, Flag};
 ghost use Rattle.ecf_lang.specs.declared.tree.Expr.TheVariants as tree;
-ghost use Rattle.ecf_faults.specs.Expressions.{faults_for, own_method, first_place, argument_faults, referent};
+ghost use Rattle.ecf_faults.specs.Expressions.{faults_for, own_method, first_place, argument_faults, referent, referent_of};
+ghost use Rattle.ecf_faults.specs.Tables.{declaration_of};
 ghost use Rattle.ecf_faults.specs.Least.{least_with};
 ghost use Rattle.ecf_typing.specs.Views.{contents_of, signature_view, view_of};
-ghost use Rattle.ecf_typing.specs.Summaries.{report, call_report, Summarizes, SummarizesFor};
+ghost use Rattle.ecf_typing.specs.Summaries.{object_else, report, call_report, Summarizes, SummarizesFor};
 
 use crate::form::{
     Summary, compare, external, flag, here, index, internal, left_side_type, not, number,
@@ -17,8 +18,8 @@ use crate::form::{
 use crate::least::FirstFault;
 use crate::names::NameMap;
 use crate::reference::{
-    MethodTypes, key_type, note_arity, note_map, note_referent, param_type, referent_form,
-    referent_of, referent_type,
+    MethodTypes, byte, key_type, note_arity, note_map, note_referent, param_type, referent_form,
+    referent_type,
 };
 use ecf_faults::Referent;
 use ecf_lang::name::Name;
@@ -36,6 +37,32 @@ pub(crate) struct Surroundings<'a> {
     pub(crate) methods: NameMap<'a, (usize, u32)>,
 }
 
+impl<'a> Surroundings<'a> {
+    /// What a name without an index stands for that is no visible local.
+    fn referent(&self, name: &[u8]) -> Referent
+        ensures { let around = view_of self.now in
+            result ≡ referent_of None (declaration_of around.own name.now) (declaration_of around.objects name.now) }
+    {
+        match self.own.get(name) {
+            None => self.object_else(name, Referent::Nothing),
+            Some((number, kind)) => match kind {
+                FieldKind::Plain(ty) => Referent::Field(byte(number), ty),
+                FieldKind::Map(_, _) => self.object_else(name, Referent::Map),
+            },
+        }
+    }
+
+    /// The object of a name, else what is given.
+    fn object_else(&self, name: &[u8], other: Referent) -> Referent
+        ensures { result ≡ object_else other (declaration_of (view_of self.now).objects name.now) }
+    {
+        match self.objects.get(name) {
+            None => other,
+            Some((object, _)) => Referent::Object(byte(object)),
+        }
+    }
+}
+
 /// What an expression can see.
 #[derive(Clone, Copy)]
 pub(crate) struct Sight<'s, 'a> {
@@ -49,11 +76,10 @@ impl<'s, 'a> Sight<'s, 'a> {
         ensures { result ≡ referent (view_of self.now.around.now) (contents_of self.now.visible.now) name.now }
     {
         let name = name.as_bytes();
-        referent_of(
-            self.visible.get(name),
-            self.around.own.get(name),
-            self.around.objects.get(name),
-        )
+        match self.visible.get(name) {
+            Some((number, ty)) => Referent::Local(number, ty),
+            None => self.around.referent(name),
+        }
     }
 
     /// An expression of which a type may be required.

@@ -3,7 +3,7 @@
 ghost use Rattle.std.specs.Prelude.{◌≡◌, ◌^◌, map, slice_get};
 ghost use Rattle.std.specs.Option.{option_map};
 ghost use Rattle.ecf_faults.specs.Tables.{number_below};
-ghost use Rattle.ecf_faults.specs.Expressions.{referent_of, referent_faults, referent_type, referent_form, map_faults, key_type, value_type, map_number, method_number, answer_type, arity_faults, parameter_types};
+ghost use Rattle.ecf_faults.specs.Expressions.{referent_faults, referent_type, referent_form, map_faults, key_type, value_type, map_number, method_number, answer_type, arity_faults, parameter_types};
 ghost use Rattle.ecf_faults.specs.Statements.{assignee_faults, assignee_type, assignee_form};
 ghost use Rattle.ecf_faults.specs.Least.{least_with};
 ghost use Rattle.ecf_typing.specs.Views.{signature_view};
@@ -21,7 +21,7 @@ pub(crate) struct MethodTypes<'a> {
     pub(crate) answer: Ty,
 }
 
-fn byte(n: usize) -> u8
+pub(crate) fn byte(n: usize) -> u8
     ensures { result ≡ number_below (2 ^ 8) n }
 {
     u8::try_from(n).unwrap_or(0)
@@ -31,31 +31,6 @@ fn two_bytes(n: usize) -> u16
     ensures { result ≡ number_below (2 ^ 16) n }
 {
     u16::try_from(n).unwrap_or(0)
-}
-
-pub(crate) fn referent_of(
-    local: Option<(u8, Ty)>,
-    own: Option<(usize, FieldKind)>,
-    object: Option<(usize, u32)>,
-) -> Referent
-    ensures { result ≡ referent_of local own object }
-{
-    if let Some((number, ty)) = local {
-        return Referent::Local(number, ty);
-    }
-    match own {
-        None => match object {
-            Some((object, _)) => Referent::Object(byte(object)),
-            None => Referent::Nothing,
-        },
-        Some((number, kind)) => match kind {
-            FieldKind::Plain(ty) => Referent::Field(byte(number), ty),
-            FieldKind::Map(_, _) => match object {
-                Some((object, _)) => Referent::Object(byte(object)),
-                None => Referent::Map,
-            },
-        },
-    }
 }
 
 pub(crate) fn note_referent(at: u32, referent: Referent, faults: &mut FirstFault)

@@ -4,4 +4,4 @@ use Rattle.ecf_typing.proofs.TableLaws.{lookup_seen}
 use Rattle.ecf_typing.proofs.names.NameMap.get.Goals as goal
 
 pub returns : goal.returns
-returns g c = let e = c.get.ensures.value in let f = c.copied.ensures in f ∙ e ∙ sym (lookup_seen (λ k. k.now) (bytes_eq c.args.name.now) c.args.self.now.entries.entries)
+returns g c = let e = c.get.ensures.value in let f = c.copied.ensures in f ∙ e ∙ sym (lookup_seen (λ k. k.bytes.now) (bytes_eq c.args.name.now) c.args.self.now.entries.entries)
