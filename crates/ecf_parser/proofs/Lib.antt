@@ -16,3 +16,4 @@ pub mod DecisionLaws
 pub mod NestingLaws
 pub mod FrontLaws
 pub mod AnswerLaws
+pub mod WithLaws

@@ -103,6 +103,10 @@ number [] = Err []
 number ((at, NumberOf value) ∷ ls) = Ok ((at, value), ls)
 number (l ∷ ls) = Err (l ∷ ls)
 
+-- a value, if that sign comes next
+abbrev pub closed : {A : Type 0} → A → Sign → Parser A
+closed x s = sign s >>= (λ _. pure x)
+
 -- takes the sign, if it comes next
 unfoldable pub eat_sign : Sign → Parser Bool
 eat_sign s = λ ls. if is_sign s (next ls) then Ok (true, behind ls) else Ok (false, ls)

@@ -1,6 +1,6 @@
 //! A place among the tokens of a source, and the reading of single tokens there.
 
-ghost use Rattle.std.specs.Prelude.{◌≡◌, ◌<◌, ◌≤◌, ◌^◌, length, false, OnOk, IsTrue, IsSome};
+ghost use Rattle.std.specs.Prelude.{◌≡◌, ◌<◌, ◌≤◌, ◌^◌, length, false, Ok, Err, OnOk, IfOk, IfErr, IsTrue, IsSome};
 ghost use Rattle.ecf_grammar.specs.Lexemes.{lexemes_of, with_numbers};
 ghost use Rattle.ecf_grammar.specs.Reading.{IsTokenOf};
 ghost use Rattle.std.specs.List.{AllByRecursion};
@@ -30,6 +30,15 @@ impl From<AllocError> for ParseFault {
     fn from(_: AllocError) -> ParseFault {
         ParseFault::NoMemory
     }
+}
+
+/// What was parsed before, with what was parsed behind it.
+pub fn with<T: Drop, U: Drop>(parsed: T, next: Result<U, ParseFault>) -> Result<(T, U), ParseFault>
+    ensures both { IfOk result (λ p. (p.0 ≡ parsed) × (next ≡ Ok p.1)) }
+    ensures fault { IfErr result (λ fault. next ≡ Err fault) }
+{
+    let next = next?;
+    Ok((parsed, next))
 }
 
 /// The tokens of a source from some place on, which contracts see as their numbered lexemes.
@@ -138,6 +147,15 @@ impl<'a> Cursor<'a> {
         } else {
             Err(ParseFault::OutOfPlace)
         }
+    }
+
+    /// Parses this sign behind what was parsed before, and hands that on.
+    pub fn closed<T: Drop>(&mut self, parsed: T, sign: Sign) -> Result<T, ParseFault>
+        ensures read { Parses (spec.closed parsed sign self.old) result self.new }
+        ensures fewer { OnOk result (length self.new < length self.old) }
+    {
+        self.sign(sign)?;
+        Ok(parsed)
     }
 
     /// Parses this word, and answers the number of its token.

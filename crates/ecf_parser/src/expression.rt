@@ -8,7 +8,7 @@ ghost use Rattle.ecf_parser.specs.Descent as spec;
 ghost use Rattle.ecf_parser.specs.Parsers as reading;
 ghost use Rattle.ecf_parser.specs.Parses.{Parses};
 
-use crate::cursor::{Cursor, ParseFault};
+use crate::cursor::{Cursor, ParseFault, with};
 use crate::tables::{comparison_op, product_op, sum_op};
 use ecf_grammar::{Kind, Sign, Word};
 use ecf_lang::tree::{CallExpr, Expr, Op};
@@ -106,13 +106,13 @@ impl<'a> Cursor<'a> {
 
     /// Parts with `||` between.
     #[cycle(expressions)]
-    #[tactic(auto, using(crate::proofs::LoopLaws::either_done, crate::proofs::LoopLaws::either_first, crate::proofs::LoopLaws::either_rest))]
+    #[tactic(auto, using(crate::proofs::LoopLaws::either_done, crate::proofs::LoopLaws::either_first, crate::proofs::LoopLaws::either_rest, crate::proofs::WithLaws::parsed, crate::proofs::WithLaws::refused, crate::proofs::WithLaws::still_fewer))]
     pub fn expr(&mut self) -> Result<Expr, ParseFault>
         ensures read { Parses (spec.expr self.old) result self.new }
         ensures fewer { OnOk result (length self.new < length self.old) }
     {
         let first = self.both()?;
-        let rest = self.ors()?;
+        let (first, rest) = with(first, self.ors())?;
         Ok(either_of(self.alloc, first, rest)?)
     }
 
@@ -132,13 +132,13 @@ impl<'a> Cursor<'a> {
 
     /// Parts with `&&` between.
     #[cycle(expressions)]
-    #[tactic(auto, using(crate::proofs::LoopLaws::both_done, crate::proofs::LoopLaws::both_first, crate::proofs::LoopLaws::both_rest))]
+    #[tactic(auto, using(crate::proofs::LoopLaws::both_done, crate::proofs::LoopLaws::both_first, crate::proofs::LoopLaws::both_rest, crate::proofs::WithLaws::parsed, crate::proofs::WithLaws::refused, crate::proofs::WithLaws::still_fewer))]
     fn both(&mut self) -> Result<Expr, ParseFault>
         ensures read { Parses (spec.both spec.expr self.old) result self.new }
         ensures fewer { OnOk result (length self.new < length self.old) }
     {
         let first = self.comparison()?;
-        let rest = self.ands()?;
+        let (first, rest) = with(first, self.ands())?;
         Ok(both_of(self.alloc, first, rest)?)
     }
 
@@ -167,23 +167,20 @@ impl<'a> Cursor<'a> {
         let Some(op) = self.eat_comparison_op() else {
             return Ok(left);
         };
-        let right = self.sum()?;
-        Ok(Expr::Compare {
-            left: Boxed::new(self.alloc, left)?,
-            op,
-            right: Boxed::new(self.alloc, right)?,
-        })
+        let left = Boxed::new(self.alloc, left)?;
+        let right = Boxed::new(self.alloc, self.sum()?)?;
+        Ok(Expr::Compare { left, op, right })
     }
 
     /// Products with `+` and `-` between.
     #[cycle(expressions)]
-    #[tactic(auto, using(crate::proofs::LoopLaws::sum_done, crate::proofs::LoopLaws::sum_first, crate::proofs::LoopLaws::sum_rest))]
+    #[tactic(auto, using(crate::proofs::LoopLaws::sum_done, crate::proofs::LoopLaws::sum_first, crate::proofs::LoopLaws::sum_rest, crate::proofs::WithLaws::parsed, crate::proofs::WithLaws::refused, crate::proofs::WithLaws::still_fewer))]
     fn sum(&mut self) -> Result<Expr, ParseFault>
         ensures read { Parses (spec.sum spec.expr self.old) result self.new }
         ensures fewer { OnOk result (length self.new < length self.old) }
     {
         let first = self.product()?;
-        let rest = self.terms()?;
+        let (first, rest) = with(first, self.terms())?;
         Ok(sum_of(self.alloc, first, rest)?)
     }
 
@@ -203,13 +200,13 @@ impl<'a> Cursor<'a> {
 
     /// Atoms with `*`, `/` and `%` between, each with or without a `!`.
     #[cycle(expressions)]
-    #[tactic(auto, using(crate::proofs::LoopLaws::product_done, crate::proofs::LoopLaws::product_first, crate::proofs::LoopLaws::product_rest))]
+    #[tactic(auto, using(crate::proofs::LoopLaws::product_done, crate::proofs::LoopLaws::product_first, crate::proofs::LoopLaws::product_rest, crate::proofs::WithLaws::parsed, crate::proofs::WithLaws::refused, crate::proofs::WithLaws::still_fewer))]
     fn product(&mut self) -> Result<Expr, ParseFault>
         ensures read { Parses (spec.product spec.expr self.old) result self.new }
         ensures fewer { OnOk result (length self.new < length self.old) }
     {
         let first = self.unary()?;
-        let rest = self.factors()?;
+        let (first, rest) = with(first, self.factors())?;
         Ok(product_of(self.alloc, first, rest)?)
     }
 
@@ -290,19 +287,14 @@ impl<'a> Cursor<'a> {
                 if !self.eat_sign(Sign::OpenBracket) {
                     return Ok(Expr::Name { at, name });
                 }
-                let key = self.expr()?;
+                let key = Boxed::new(self.alloc, self.expr()?)?;
                 self.sign(Sign::CloseBracket)?;
-                Ok(Expr::At {
-                    at,
-                    name,
-                    key: Boxed::new(self.alloc, key)?,
-                })
+                Ok(Expr::At { at, name, key })
             }
             Some(Kind::Sign(Sign::OpenParen)) => {
                 self.sign(Sign::OpenParen)?;
                 let inner = self.expr()?;
-                self.sign(Sign::CloseParen)?;
-                Ok(inner)
+                self.closed(inner, Sign::CloseParen)
             }
             _ => Err(ParseFault::OutOfPlace),
         }
@@ -343,13 +335,13 @@ impl<'a> Cursor<'a> {
         ensures read { Parses (spec.external spec.expr at self.old) result self.new }
         ensures fewer { OnOk result (length self.new < length self.old) }
     {
-        let target = self.target()?;
+        let target = Boxed::new(self.alloc, self.target()?)?;
         self.sign(Sign::Dot)?;
         let (name_at, name) = self.name()?;
         let args = self.arguments()?;
         Ok(CallExpr::External {
             at,
-            target: Boxed::new(self.alloc, target)?,
+            target,
             name_at,
             name,
             args,

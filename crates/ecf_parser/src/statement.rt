@@ -7,7 +7,7 @@ ghost use Rattle.ecf_parser.specs.Descent as spec;
 ghost use Rattle.ecf_parser.specs.Parsers as reading;
 ghost use Rattle.ecf_parser.specs.Parses.{Parses};
 
-use crate::cursor::{Cursor, ParseFault};
+use crate::cursor::{Cursor, ParseFault, with};
 use ecf_grammar::{Kind, Sign, Word};
 use ecf_lang::name::Name;
 use ecf_lang::tree::{Block, Expr, Stmt, Ty};
@@ -22,8 +22,7 @@ impl<'a> Cursor<'a> {
     {
         self.sign(Sign::Assign)?;
         let value = self.expr()?;
-        self.sign(Sign::Semicolon)?;
-        Ok(value)
+        self.closed(value, Sign::Semicolon)
     }
 
     /// An expression and `;`.
@@ -33,8 +32,7 @@ impl<'a> Cursor<'a> {
         ensures fewer { OnOk result (length self.new < length self.old) }
     {
         let value = self.expr()?;
-        self.sign(Sign::Semicolon)?;
-        Ok(value)
+        self.closed(value, Sign::Semicolon)
     }
 
     /// The value or the `try` of a `let`, behind its `=`, and the `;`; `at` is the token of the name.
@@ -46,17 +44,16 @@ impl<'a> Cursor<'a> {
         if self.sees_word(Word::Try) {
             let place = self.word(Word::Try)?;
             let call = self.external(place)?;
-            self.sign(Sign::Semicolon)?;
-            return Ok(Stmt::Try { at, name, ty, call });
+            return self.closed(Stmt::Try { at, name, ty, call }, Sign::Semicolon);
         }
         let value = self.expr()?;
-        self.sign(Sign::Semicolon)?;
-        Ok(Stmt::Let {
+        let stmt = Stmt::Let {
             at,
             name,
             ty,
             value,
-        })
+        };
+        self.closed(stmt, Sign::Semicolon)
     }
 
     /// A `let`.
@@ -74,7 +71,7 @@ impl<'a> Cursor<'a> {
     }
 
     /// An assignment to a name, or to a name with an index.
-    #[tactic(auto, unfolding(crate::specs::Descent::set))]
+    #[tactic(auto, using(crate::proofs::WithLaws::parsed, crate::proofs::WithLaws::refused, crate::proofs::WithLaws::still_less), unfolding(crate::specs::Descent::set))]
     fn assignment(&mut self) -> Result<Stmt, ParseFault>
         ensures read { Parses (spec.set self.old) result self.new }
         ensures fewer { OnOk result (length self.new < length self.old) }
@@ -85,8 +82,8 @@ impl<'a> Cursor<'a> {
             return Ok(Stmt::Set { at, name, value });
         }
         let key = self.expr()?;
-        self.sign(Sign::CloseBracket)?;
-        let value = self.value()?;
+        let key = self.closed(key, Sign::CloseBracket)?;
+        let (key, value) = with(key, self.value())?;
         Ok(Stmt::SetAt {
             at,
             name,
@@ -97,14 +94,13 @@ impl<'a> Cursor<'a> {
 
     /// A condition and its block.
     #[cycle(blocks)]
-    #[tactic(auto, unfolding(crate::specs::Descent::arm))]
+    #[tactic(auto, using(crate::proofs::WithLaws::with_read, crate::proofs::WithLaws::with_fewer), unfolding(crate::specs::Descent::arm))]
     fn arm(&mut self) -> Result<(Expr, Block), ParseFault>
         ensures read { Parses (spec.arm spec.block self.old) result self.new }
         ensures fewer { OnOk result (length self.new < length self.old) }
     {
         let cond = self.expr()?;
-        let body = self.block()?;
-        Ok((cond, body))
+        with(cond, self.block())
     }
 
     /// The arms behind `else if` and the block behind a last `else`, so far as there are any.
@@ -133,10 +129,9 @@ impl<'a> Cursor<'a> {
         ensures fewer { OnOk result (length self.new < length self.old) }
     {
         self.word(Word::If)?;
-        let first = self.arm()?;
-        let (rest, last) = self.elses()?;
         let mut arms = Items::new(self.alloc);
-        arms.push(first)?;
+        arms.push(self.arm()?)?;
+        let (rest, last) = self.elses()?;
         arms.append(rest)?;
         Ok(Stmt::If { arms, last })
     }
@@ -177,8 +172,7 @@ impl<'a> Cursor<'a> {
             }
             _ => {
                 let call = self.invoke()?;
-                self.sign(Sign::Semicolon)?;
-                Ok(Stmt::Do { call })
+                self.closed(Stmt::Do { call }, Sign::Semicolon)
             }
         }
     }
