@@ -38,7 +38,7 @@ joined txs part offs before (Some watch) rest =
 pub next_part : NextPart
 next_part typed a b d l m n f g h txs part offs off some settled ea eb r s =
     calls_follow typed a b d l m n f g h (with_said txs offs) (with_part part b.txs off) (with_said (txs ++ part) (offs ++ off_behind (b.txs + length part) off)) some settled ea eb r s
-      (λ rest. joined txs part offs b.txs off rest)
+    (λ rest. joined txs part offs b.txs off rest)
 
 -- a source that tells what is left
 told_whole : (bytes piece : List ℕ) (left' : Option (List ℕ)) → Gave (Some bytes) piece left' → (more : List ℕ) × (left' ≡ Some more) × (bytes ≡ piece ++ more)
