@@ -10,6 +10,8 @@ use ecf_edge::{Failed, Source};
 pub(crate) struct CutSource {
     bytes: Vec<u8>,
     at: usize,
+    /// How often the bytes come once more.
+    again: usize,
     /// The least size of a piece, and by how many others it may be greater.
     least: usize,
     others: u64,
@@ -27,6 +29,13 @@ impl CutSource {
         CutSource::new(bytes, size, 0, 0)
     }
 
+    /// The bytes once, and so many times more; each time as one piece.
+    pub(crate) fn repeated(bytes: Vec<u8>, again: usize) -> CutSource {
+        let mut source = CutSource::even(bytes, usize::MAX);
+        source.again = again;
+        source
+    }
+
     /// Pieces of 1 to 97 bytes.
     pub(crate) fn uneven(bytes: Vec<u8>, seed: u64) -> CutSource {
         CutSource::new(bytes, 1, 96, seed)
@@ -36,6 +45,7 @@ impl CutSource {
         CutSource {
             bytes,
             at: 0,
+            again: 0,
             least,
             others,
             seed,
@@ -49,6 +59,13 @@ impl CutSource {
         self.reads = self.reads.saturating_add(1);
         self.most_room = self.most_room.max(room);
         self.least_room = self.least_room.min(room);
+    }
+
+    fn begin_again(&mut self) {
+        if self.again > 0 && self.at >= self.bytes.len() {
+            self.again -= 1;
+            self.at = 0;
+        }
     }
 
     fn next_size(&mut self) -> usize {
@@ -68,6 +85,7 @@ impl Source for CutSource {
 
     fn read(&mut self, buf: &mut [u8]) -> Result<usize, Failed> {
         self.count(buf.len());
+        self.begin_again();
         let size = self.next_size();
         let Some(rest) = self.bytes.get(self.at..) else {
             return Ok(0);

@@ -92,3 +92,49 @@ fn a_last_line_is_told(rt: HostRuntime) -> Result<(), Fail> {
     }
     Ok(())
 }
+
+/// Where a stream of so many bytes at most stops, and why, or how many lines it has that an LF ended.
+fn stop_of(alloc: Global, most: u8, text: &str) -> Result<String, AllocError> {
+    let mut reader = reader_of(alloc, most)?;
+    let mut lines = 0u64;
+    for byte in text.as_bytes() {
+        match reader.feed(&[*byte]) {
+            Fed::More => {}
+            Fed::Line { .. } => lines = lines.saturating_add(1),
+            Fed::Long { .. } => return format!(in alloc; "{} long", reader.number()),
+            Fed::Bytes { .. } => return format!(in alloc; "{} bytes", reader.number()),
+        }
+    }
+    format!(in alloc; "{lines} lines")
+}
+
+#[test]
+fn bytes_stop_at_each_place(rt: HostRuntime) -> Result<(), Fail> {
+    for (most, text, want) in [
+        (3, "abc\nabc\nabc\n", "1 bytes"),
+        (7, "abc\nabc\nabc\n", "2 bytes"),
+        (11, "abc\nabc\nabc\n", "3 bytes"),
+        (12, "abc\nabc\nabc\n", "3 lines"),
+        (4, "abc\r\nab\r\nabc\r\n", "1 bytes"),
+        (8, "abc\r\nab\r\nabc\r\n", "2 bytes"),
+        (13, "abc\r\nab\r\nabc\r\n", "3 bytes"),
+        (14, "abc\r\nab\r\nabc\r\n", "3 lines"),
+        (2, "abc\nabc\nabc", "1 bytes"),
+        (6, "abc\nabc\nabc", "2 bytes"),
+        (10, "abc\nabc\nabc", "3 bytes"),
+        (11, "abc\nabc\nabc", "2 lines"),
+        (0, "abc\r\nab\r\nabc", "1 bytes"),
+        (5, "abc\r\nab\r\nabc", "2 bytes"),
+        (11, "abc\r\nab\r\nabc", "3 bytes"),
+        (12, "abc\r\nab\r\nabc", "2 lines"),
+        (0, "\n\nab", "1 bytes"),
+        (1, "\n\nab", "2 bytes"),
+        (2, "\n\nab", "3 bytes"),
+        (5, "\n\nabc\r", "3 bytes"),
+        (6, "\n\nabc\r", "2 lines"),
+    ] {
+        let told = stop_of(rt.alloc(), most, text)?;
+        assert_eq!(rt; told.as_str(), want, "{text} {most}");
+    }
+    Ok(())
+}

@@ -40,8 +40,16 @@ fn parts<S: Source>(
 
 /// How many transactions there are up to the last part, and how that ends.
 fn whole<S: Source>(alloc: Global, source: &mut S, most: usize) -> Result<String, AllocError> {
+    whole_by(alloc, &mut StreamReader::new(alloc)?, source, most)
+}
+
+fn whole_by<S: Source>(
+    alloc: Global,
+    reader: &mut StreamReader,
+    source: &mut S,
+    most: usize,
+) -> Result<String, AllocError> {
     let typed = contract(alloc)?;
-    let mut reader = StreamReader::new(alloc)?;
     let mut count = 0usize;
     for _ in 0..300_000 {
         let part = reader.round(alloc, &typed, source, at_least_one(most))?;
@@ -152,6 +160,9 @@ fn whole_of_three(
     Ok(read)
 }
 
+/// How three lines may end: the first two, and the last.
+const ENDS: [(&str, &str); 4] = [("\n", "\n"), ("\r\n", "\r\n"), ("\n", ""), ("\r\n", "")];
+
 #[test]
 fn each_cause_stops_at_each_place(rt: HostRuntime) -> Result<(), Fail> {
     let alloc = rt.alloc();
@@ -165,7 +176,7 @@ fn each_cause_stops_at_each_place(rt: HostRuntime) -> Result<(), Fail> {
         // 18 bytes behind these zeros.
         (4_079, LINE, "Long"),
     ] {
-        for ends in [("\n", "\n"), ("\r\n", "\r\n"), ("\n", ""), ("\r\n", "")] {
+        for ends in ENDS {
             for (place, stop) in [(0, "0 stop 1"), (1, "1 stop 2"), (2, "2 stop 3")] {
                 let read = whole_of_three(alloc, zeros, line, place, ends)?;
                 let want = format!(in alloc; "{stop} {cause}")?;
@@ -173,6 +184,53 @@ fn each_cause_stops_at_each_place(rt: HostRuntime) -> Result<(), Fail> {
             }
         }
     }
+    Ok(())
+}
+
+/// Three transactions, in pieces of seven bytes, where so many more may come.
+fn whole_with_room(alloc: Global, room: u8, ends: (&str, &str)) -> Result<String, AllocError> {
+    let text = three_lines(alloc, 0, LINE, 0, ends)?;
+    let mut source = SureSource::new(text, at_least_one(7));
+    let mut reader = StreamReader::with_controls(alloc, 200_000 - u32::from(room))?;
+    whole_by(alloc, &mut reader, &mut source, 2)
+}
+
+#[test]
+fn many_stops_at_each_place(rt: HostRuntime) -> Result<(), Fail> {
+    for ends in ENDS {
+        for (room, want) in [
+            (0, "0 stop 1 Many"),
+            (1, "1 stop 2 Many"),
+            (2, "2 stop 3 Many"),
+            (3, "3 end"),
+        ] {
+            let read = whole_with_room(rt.alloc(), room, ends)?;
+            assert_eq!(rt; read.as_str(), want);
+        }
+    }
+    Ok(())
+}
+
+/// What so many lines say that come again and again.
+fn whole_again(
+    alloc: Global,
+    lines: usize,
+    again: usize,
+    most: usize,
+) -> Result<String, AllocError> {
+    let mut text = Vec::new(alloc);
+    for _ in 0..lines {
+        text.extend_from_slice(LINE.as_bytes())?;
+        text.push(b'\n')?;
+    }
+    whole(alloc, &mut CutSource::repeated(text, again), most)
+}
+
+#[test]
+fn a_stream_has_so_many_transactions_at_most(rt: HostRuntime) -> Result<(), Fail> {
+    // 489 lines, 409 times: 200,001.
+    let read = whole_again(rt.alloc(), 489, 408, 200_000)?;
+    assert_eq!(rt; read.as_str(), "200000 stop 200001 Many");
     Ok(())
 }
 
@@ -272,6 +330,50 @@ fn a_failed_read_stops(rt: HostRuntime) -> Result<(), Fail> {
     ] {
         let read = failing(alloc, text, step, fails)?;
         assert_eq!(rt; read.as_str(), want);
+    }
+    Ok(())
+}
+
+/// What comes of lines that end so, and of what stands behind them where a read fails.
+fn failing_behind(
+    alloc: Global,
+    lines: u8,
+    end: &str,
+    begun: &str,
+    step: usize,
+) -> Result<String, AllocError> {
+    let mut text = String::new(alloc);
+    for _ in 0..lines {
+        text.push_str(LINE)?;
+        text.push_str(end)?;
+    }
+    text.push_str(begun)?;
+    let reads = text.len().div_ceil(at_least_one(step)) as u64;
+    failing(alloc, text.as_str(), step, reads.saturating_add(1))
+}
+
+#[test]
+fn read_stops_at_each_place(rt: HostRuntime) -> Result<(), Fail> {
+    let alloc = rt.alloc();
+    for begun in [
+        "",
+        "\r",
+        "1 Cou",
+        LINE,
+        "1 Counter bump 100\r",
+        "1 Counter jump",
+    ] {
+        for end in ["\n", "\r\n"] {
+            for (lines, stop) in [(0, 1), (1, 2), (2, 3)] {
+                let want = format!(in alloc;
+                    "{lines} stop {stop} Read; 0 stop {stop} Read; faults 1 left 0"
+                )?;
+                for step in [1, 7, READ_BYTES] {
+                    let read = failing_behind(alloc, lines, end, begun, step)?;
+                    assert_eq!(rt; read.as_str(), want.as_str(), "{begun} {step}");
+                }
+            }
+        }
     }
     Ok(())
 }
