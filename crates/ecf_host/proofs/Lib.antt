@@ -6,3 +6,4 @@ pub mod ContractLaws
 pub mod OneLaws
 pub mod ServedLaws
 pub mod RunLaws
+pub mod ShowLaws

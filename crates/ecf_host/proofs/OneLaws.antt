@@ -18,9 +18,9 @@ use Rattle.ecf_faults.specs.Least.{IsLeast}
 use Rattle.ecf_host.specs.declared.refusal.Refusal.{Refusal}
 use Rattle.ecf_host.specs.declared.refusal.Refusal.TheVariants.{Words, TooLong, Syntax, TooDeep, Typing, Missing, ReadFault}
 use Rattle.ecf_host.specs.Answers.{Answer}
-use Rattle.ecf_host.specs.Contract.{fetched, refusal_of_fault, lexed, parsed, typed, contract}
-use Rattle.ecf_host.specs.Due.{journal_answer, ran, due_of_run, refused_words, IsSmooth, OneDue}
-use Rattle.ecf_host.specs.Stages.{Stage, ◌▷◌, of_shelf, computed, of_source, OneAtMost}
+use Rattle.ecf_host.specs.Contract.{fetched, refusal_of_fault, lexed, parsed, spelled, typed, contract}
+use Rattle.ecf_host.specs.Due.{journal_answer, IsRun, ran, due_of_run, shown_answer, shown, due_of_show, refused_words, due, IsSmooth, OneDue}
+use Rattle.ecf_host.specs.Stages.{Stage, ◌▷◌, of_shelf, computed, of_source, untouched, OneAtMost}
 use Rattle.ecf_host.specs.Stages.◌▷◌.{refused, went_on}
 use Rattle.ecf_host.specs.Stream.{IsStream, streamed}
 use Rattle.ecf_host.specs.Stream.IsStream.{read_on, cut_off}
@@ -190,6 +190,12 @@ ran_is : (typed : Typed) (said : StreamSaid) (outcome : Result Answer Refusal) �
 ran_is typed said (Ok answer) is = ap Ok is.in_order
 ran_is typed said (Err refusal) is = absurd is
 
+-- ---- the canonical text
+
+shown_is : (tree : Tree) (outcome : Result Answer Refusal) → shown tree outcome → outcome ≡ Ok (shown_answer tree)
+shown_is tree (Ok answer) is = ap Ok is
+shown_is tree (Err refusal) is = absurd is
+
 -- ---- what is due
 
 refused_words_is : (outcome : Result Answer Refusal) → refused_words outcome → outcome ≡ Err Words
@@ -213,7 +219,17 @@ module _ (reading : OneReading) (apart : ReadOrRefused) (fault : OneFault) (tree
       (streamed_one typed before.source after.source smooth.bytes smooth.bytes_told smooth.reads))
       (λ said. determined (ran typed said) (Ok (journal_answer typed said)) (ran_is typed said))))
 
+  show_one : (file : List ℕ) (before after : Inputs) → IsSmooth before after → OneAtMost (due_of_show file before after)
+  show_one file before after smooth =
+      chain_one (of_shelf before after (fetched before.shelf after.shelf file)) _
+      (narrower (fetched before.shelf after.shelf file) (of_shelf before after (fetched before.shelf after.shelf file)) (from_shelf before after (fetched before.shelf after.shelf file))
+      (fetched_one before.shelf after.shelf smooth.files smooth.files_told smooth.fetches file))
+      (λ text. narrower (spelled text ▷ shown) (untouched before after (spelled text ▷ shown)) (λ outcome is. is.0)
+      (chain_one (spelled text) shown (chain_one (lexed text) (parsed text) (lexed_one reading apart fault text) (parsed_one tree answer text))
+      (λ shape. determined (shown shape) (Ok (shown_answer shape)) (shown_is shape))))
+
   pub one_due : OneDue
   one_due (Some (Command.Run file)) before after smooth = run_one file before after smooth
+  one_due (Some (Command.Show file)) before after smooth = show_one file before after smooth
   one_due None before after smooth =
       narrower refused_words (computed before after refused_words) (from_computed before after refused_words) (determined refused_words (Err Words) refused_words_is)

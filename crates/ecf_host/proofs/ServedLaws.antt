@@ -16,7 +16,7 @@ use Rattle.ecf_host.specs.declared.refusal.Refusal.TheVariants.{Words, TooLong, 
 use Rattle.ecf_host.specs.Answers.{Answer, answer_of, answer_of_report, answer_of_refusal}
 use Rattle.ecf_host.specs.Delivery.{IsPut, IsDelivered}
 use Rattle.ecf_host.specs.Delivery.IsPut.{whole, failed, no_memory}
-use Rattle.ecf_host.specs.Due.{status_of_cause, status_of_stop, due, due_of_run, Comes, IsDue, IsSomeDue, IsUncounted, OneDue}
+use Rattle.ecf_host.specs.Due.{status_of_cause, status_of_stop, due, due_of_run, due_of_show, Comes, IsDue, IsSomeDue, IsUncounted, OneDue}
 use Rattle.ecf_host.specs.Refusals.{status_of}
 use Rattle.ecf_host.specs.Served.{IsWritten, IsBegun, NoWriteFailed, HasRead, IsFailed, IsServed, IsDueBegun, IsSilent, IsUndisturbed}
 use Rattle.ecf_host.specs.Stages.◌▷◌.{went_on}
@@ -144,8 +144,15 @@ run_ended file before after answer (went_on text _ h (went_on typed _ k (went_on
       l.1,
     )
 
+-- a report of `show` has status 0, and nothing was fetched amiss or read
+show_ended : (file : List ℕ) (before after : Inputs) (answer : Answer) → due_of_show file before after (Ok answer) → (answer.status ≡ 0) × (after ≡ before)
+show_ended file before after answer (went_on text _ h (went_on tree _ k is, same)) = (ap (λ (a : Answer). a.status) is, same)
+
 ended_of : (command : Option Command) (before after : Inputs) (answer : Answer) → due command before after (Ok answer) → (answer.status ≤ 4) × (answer.status ≡ 0 → IsEnded command before after)
 ended_of (Some (Command.Run file)) before after answer comes = (let end = run_ended file before after answer comes in (end.0, λ zero. end.1 zero end.2))
+ended_of (Some (Command.Show file)) before after answer comes =
+    (let end = show_ended file before after answer comes in
+    (omega (arith, end.0), λ zero. (tt, ap (λ (i : Inputs). i.shelf) end.1, ap (λ (i : Inputs). i.source.faults) end.1)))
 ended_of None before after answer comes = absurd comes
 
 module _ (one : OneDue) (command : Option Command) (before after : World) where

@@ -50,6 +50,10 @@ parsed text tokens (Err (Syntax token)) = IsOutOfPlace (lexemes_of text tokens) 
 parsed text tokens (Err (TooDeep token)) = IsTooDeep (lexemes_of text tokens) token
 parsed text tokens (Err _) = ⊥
 
+-- the tree that a text spells
+abbrev pub spelled : List ℕ → Stage Tree
+spelled text = lexed text ▷ parsed text
+
 -- typed: the numbered form of a tree in which no name and no type is wrong, or its first fault
 abbrev pub typed : Tree → Stage Typed
 typed tree (Ok form) = (faults_of_tree tree ≡ []) × (form ≡ numbered_form tree)

@@ -5,8 +5,10 @@ use Rattle.ecf_edge.specs.Shelf.{Files}
 use Rattle.ecf_lang.specs.declared.receipt.Stop.{Stop}
 use Rattle.ecf_lang.specs.declared.receipt.StopCause.{StopCause}
 use Rattle.ecf_lang.specs.declared.receipt.StopCause.TheVariants.{Read}
+use Rattle.ecf_lang.specs.declared.tree.Tree.{Tree}
 use Rattle.ecf_lang.specs.declared.typed.Typed.{Typed}
 use Rattle.ecf_lines.specs.Stream.{StreamSaid}
+use Rattle.ecf_show.specs.Files.{tree_text}
 use Rattle.ecf_verdicts.specs.Journals.{places}
 use Rattle.ecf_host.specs.declared.refusal.Refusal.{Refusal}
 use Rattle.ecf_host.specs.declared.refusal.Refusal.TheVariants.{Words}
@@ -14,9 +16,9 @@ use Rattle.ecf_host.specs.declared.failure.Failure.{Failure}
 use Rattle.ecf_host.specs.declared.failure.Failure.TheVariants.{Refused, NoMemory}
 use Rattle.ecf_host.specs.declared.failure.Report.{Report}
 use Rattle.ecf_host.specs.Answers.{Answer, answer_of, answer_of_report}
-use Rattle.ecf_host.specs.Contract.{fetched, contract}
+use Rattle.ecf_host.specs.Contract.{fetched, spelled, contract}
 use Rattle.ecf_journals.specs.Journals.{IsJournal, text_along}
-use Rattle.ecf_host.specs.Stages.{Stage, ◌▷◌, of_shelf, computed, of_source, OneAtMost}
+use Rattle.ecf_host.specs.Stages.{Stage, ◌▷◌, of_shelf, computed, of_source, untouched, OneAtMost}
 use Rattle.ecf_host.specs.Stream.{streamed}
 use Rattle.ecf_host.specs.Words.{Command}
 use Rattle.ecf_host.specs.World.{Inputs}
@@ -60,6 +62,21 @@ due_of_run file before after =
     of_source before after (streamed typed before.source after.source) ▷
     ran typed))
 
+-- the canonical text of a tree, with status 0
+abbrev pub shown_answer : Tree → Answer
+shown_answer tree = record { status = 0; out = tree_text tree; note = [] }
+
+-- shown: a tree has its canonical text
+abbrev pub shown : Tree → Stage Answer
+shown tree (Ok answer) = answer ≡ shown_answer tree
+shown tree (Err refusal) = ⊥
+
+-- `show FILE`: the file is fetched and read as a tree, whose names and types aren't looked at; nothing is read from the source
+abbrev pub due_of_show : List ℕ → Inputs → Inputs → Stage Answer
+due_of_show file before after =
+    of_shelf before after (fetched before.shelf after.shelf file) ▷ (λ text.
+    untouched before after (spelled text ▷ shown))
+
 -- words that are no command are refused, and neither shelf nor source is touched
 abbrev pub refused_words : Stage Answer
 refused_words (Ok answer) = ⊥
@@ -68,6 +85,7 @@ refused_words (Err refusal) = refusal ≡ Words
 -- what may come of a command
 abbrev pub due : Option Command → Inputs → Inputs → Stage Answer
 due (Some (Command.Run file)) before after = due_of_run file before after
+due (Some (Command.Show file)) before after = due_of_show file before after
 due None before after = computed before after refused_words
 
 -- this answer is due

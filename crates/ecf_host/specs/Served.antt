@@ -34,6 +34,7 @@ pub record IsAnswered (command : Option Command) (before after : World) (status 
 -- what a command that did all its work has read
 abbrev pub HasRead : Option Command → Inputs → Type 0
 HasRead (Some (Command.Run file)) after = IsAtEnd after.source.left
+HasRead (Some (Command.Show file)) after = Unit {0}
 HasRead None after = ⊥
 
 -- status 0: all was read, and nothing failed

@@ -30,3 +30,7 @@ computed before after stage (Err refusal) = stage (Err refusal) × (after ≡ be
 -- a stage that reads the stream, which comes last: the shelf is as it was
 abbrev pub of_source : {A : Type 0} → Inputs → Inputs → Stage A → Stage A
 of_source before after stage outcome = stage outcome × (after.shelf ≡ before.shelf)
+
+-- a stage that comes last and neither fetches nor reads: whatever comes of it, shelf and source are as they were
+abbrev pub untouched : {A : Type 0} → Inputs → Inputs → Stage A → Stage A
+untouched before after stage outcome = stage outcome × (after ≡ before)

@@ -5,7 +5,7 @@ ghost use Rattle.ecf_grammar.specs.Reading.{Reads};
 ghost use Rattle.ecf_heap.specs.Numbered.{IsWithinLimits};
 ghost use Rattle.ecf_lines.specs.Line.{IsNumbered};
 ghost use Rattle.ecf_wellformed.specs.WellFormed.{IsWellFormed};
-ghost use Rattle.ecf_host.specs.Contract.{fetched, lexed, parsed, typed, contract};
+ghost use Rattle.ecf_host.specs.Contract.{fetched, lexed, parsed, spelled, typed, contract};
 ghost use Rattle.ecf_host.specs.Failures.{IfRefused, OnNoMemory};
 ghost use Rattle.ecf_host.specs.World.{shelf_state};
 
@@ -62,6 +62,16 @@ fn read_contract(alloc: Global, text: &[u8]) -> Result<Typed, Failure>
     let tokens = tokens_of(alloc, text)?;
     let tree = tree_of(alloc, text, tokens.as_slice())?;
     typed_of(alloc, &tree)
+}
+
+/// The tree that a text spells; its names and types aren't looked at.
+pub fn spelled_tree(alloc: Global, text: &[u8]) -> Result<Tree, Failure>
+    requires { length text.now ≤ MAX_CONTRACT_BYTES }
+    ensures tree { IfOk result (λ tree. spelled text.now (Ok tree)) }
+    ensures refused { IfErr result (λ failure. IfRefused failure (λ refusal. spelled text.now (Err refusal))) }
+{
+    let tokens = tokens_of(alloc, text)?;
+    tree_of(alloc, text, tokens.as_slice())
 }
 
 // The tokens of a text.

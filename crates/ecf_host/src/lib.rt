@@ -1,4 +1,4 @@
-//! The host: reads a contract and a stream, runs the transactions and writes the journal.
+//! The host: reads a contract and a stream, runs the transactions and writes the journal; or shows a contract.
 #![tactic(auto)]
 
 mod contract;
@@ -8,6 +8,7 @@ mod journal;
 mod laws;
 mod refusal;
 mod run;
+mod show;
 mod stream;
 mod top;
 mod words;

@@ -1,8 +1,8 @@
 //! The top calls: from the words to the status.
 
-ghost use Rattle.std.specs.Prelude.{None, map, string_bytes};
+ghost use Rattle.std.specs.Prelude.{map, string_bytes};
 ghost use Rattle.ecf_host.specs.Served.{IsServed};
-ghost use Rattle.ecf_host.specs.Words.{command_of};
+ghost use Rattle.ecf_host.specs.Words.{command_of, tool_of};
 ghost use Rattle.ecf_host.specs.World.{world};
 
 use crate::deliver::deliver;
@@ -10,11 +10,13 @@ use crate::failure::Failure;
 use crate::laws::one_due;
 use crate::refusal::Refusal;
 use crate::run::run;
-use crate::words::file_to_run;
+use crate::show::show;
+use crate::words::file_behind;
 use ecf_edge::{Shelf, Sink, Source};
 use std::alloc::Global;
 
-/// Refuses all words: no command but `run` is there yet.
+/// Runs a command that needs no stream and no thread. `show FILE` fetches the contract in FILE from the shelf and writes its
+/// canonical text on `out`; where it is refused it writes one line on `note`. All other words are refused, `run` too.
 pub fn tool<F: Shelf, S: Source, K: Sink, N: Sink>(
     alloc: Global,
     words: &[String],
@@ -25,10 +27,16 @@ pub fn tool<F: Shelf, S: Source, K: Sink, N: Sink>(
 ) -> u8
     ensures { let before = world F.Shelf S.Source K.Sink N.Sink shelf.old input.old out.old note.old in
         let after = world F.Shelf S.Source K.Sink N.Sink shelf.new input.new out.new note.new in
-        IsServed None before after result }
+        IsServed (tool_of (map string_bytes words.now)) before after result }
 {
     one_due();
-    deliver(alloc, Err(Failure::Refused(Refusal::Words)), out, note)
+    match file_behind("show", words) {
+        Some(file) => {
+            let shown = show(alloc, file, shelf);
+            deliver(alloc, shown, out, note)
+        }
+        None => deliver(alloc, Err(Failure::Refused(Refusal::Words)), out, note),
+    }
 }
 
 /// Runs the command that the words are. `run FILE` fetches the contract in FILE from the shelf, reads the stream from
@@ -48,7 +56,7 @@ pub fn host<R, F: Shelf, S: Source, K: Sink, N: Sink>(
         IsServed (command_of (map string_bytes words.now)) before after result }
 {
     one_due();
-    match file_to_run(words) {
+    match file_behind("run", words) {
         Some(file) => {
             let outcome = run(alloc, file, shelf, input);
             deliver(alloc, outcome, out, note)

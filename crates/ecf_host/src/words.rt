@@ -2,14 +2,14 @@
 
 ghost use Rattle.std.specs.Prelude.{◌≡◌, map, string_bytes};
 ghost use Rattle.std.specs.Option.{option_copied};
-ghost use Rattle.ecf_host.specs.Words.{file_name, file_to_run};
+ghost use Rattle.ecf_host.specs.Words.{file_name, file_behind};
 
-/// The file that `run FILE` names; none for any other words.
-pub fn file_to_run(words: &[String]) -> Option<&str>
-    ensures { option_copied result ≡ file_to_run (map string_bytes words.now) }
+/// The file that stands behind the word of a command; none where the words are any others.
+pub fn file_behind<'a>(word: &str, words: &'a [String]) -> Option<&'a str>
+    ensures { option_copied result ≡ file_behind word.now (map string_bytes words.now) }
 {
     match words {
-        [command, file] if command.as_str() == "run" => file_name(file.as_str()),
+        [command, file] if command.as_str() == word => file_name(file.as_str()),
         _ => None,
     }
 }
