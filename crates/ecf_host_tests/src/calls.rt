@@ -38,7 +38,9 @@ fn numbers(fails: Fails) -> (u64, u64, u64, u64) {
 /// What a call is made over. The contract is held under `c.ecf`.
 #[derive(Clone, Copy)]
 pub(crate) struct Case {
-    /// The word behind `run`.
+    /// The first word.
+    pub command: &'static str,
+    /// The word behind it.
     pub file: &'static str,
     pub contract: &'static str,
     /// How many blanks stand behind the contract.
@@ -52,6 +54,7 @@ pub(crate) struct Case {
 /// The counter, called once.
 pub(crate) fn counted(step: usize, fails: Fails) -> Case {
     Case {
+        command: "run",
         file: "c.ecf",
         contract: COUNTER,
         blanks: 0,
@@ -61,10 +64,10 @@ pub(crate) fn counted(step: usize, fails: Fails) -> Case {
     }
 }
 
-fn words_of(alloc: Global, file: &str) -> Result<Vec<String>, AllocError> {
-    let run = String::from_str(alloc, "run")?;
+fn words_of(alloc: Global, command: &str, file: &str) -> Result<Vec<String>, AllocError> {
+    let command = String::from_str(alloc, command)?;
     let file = String::from_str(alloc, file)?;
-    Ok(vec![in alloc; run, file]?)
+    Ok(vec![in alloc; command, file]?)
 }
 
 /// A text, and so many blanks.
@@ -138,7 +141,7 @@ fn told_over(
 pub(crate) fn called(rt: &HostRuntime, case: Case) -> Result<String, AllocError> {
     let alloc = rt.alloc();
     let (fetch, read, write, note) = numbers(case.fails);
-    let words = words_of(alloc, case.file)?;
+    let words = words_of(alloc, case.command, case.file)?;
     let contract = padded(alloc, case.contract, case.blanks)?;
     let mut shelf = shelf_of(alloc, contract, fetch)?;
     let mut input = source_of(alloc, case.stream, case.step, read)?;

@@ -19,6 +19,8 @@ mod refusals;
 #[cfg(test)]
 mod shelves;
 #[cfg(test)]
+mod shows;
+#[cfg(test)]
 mod sinks;
 #[cfg(test)]
 mod sources;
