@@ -1,8 +1,9 @@
 -- Who has steps, step by step, and what it says of the members.
-use Rattle.std.proofs.Common.{◌≡◌, ℕ, ◌<◌, ◌≤◌, ◌==◌, List, [], ◌∷◌, ◌++◌, length, ◌⊎◌, inl, inr, Bool, true, false, cond, refl, sym, ap, ◌∙◌, arith}
+use Rattle.std.proofs.Common.{◌≡◌, ℕ, ◌<◌, ◌≤◌, ◌==◌, ◌+◌, List, [], ◌∷◌, ◌++◌, length, take, drop, get_or, ◌⊎◌, inl, inr, Bool, true, false, cond, refl, sym, ap, ◌∙◌, arith}
 use Rattle.std.specs.List.{list_all}
 use Rattle.std.proofs.lemmas.Bool.{cases_eq, and_parts, eq-eqb, eqb-true, ne_eqb}
-use Rattle.ecf_judge.specs.Membership.{with_member, membership_from, membership}
+use Rattle.std.proofs.lemmas.List.{take_all}
+use Rattle.ecf_judge.specs.Membership.{are_of_one, with_member, membership_from, membership}
 use Rattle.ecf_judge.specs.declared.membership.Membership.{Membership}
 use Rattle.ecf_judge.specs.declared.membership.Membership.TheVariants.{Nobody, Only, Several}
 use Rattle.ecf_lang.specs.declared.run.Step.{Step}
@@ -133,9 +134,23 @@ all_one steps i h o e = elim (few_all steps i o Nobody h (inl refl)) [
   | inr f ↦ only_several i _ f e
 ]
 
-pub all_none : (steps : List Step) (i : ℕ) → length steps < 1 → list_all (λ (s : Step). s.inv == i) steps ≡ true
-all_none [] i h = refl
-all_none (s ∷ rest) i h = absurd (omega (arith, h))
+-- none, and a first with the rest
+pub one_none : (steps : List Step) → length steps < 1 → true ≡ are_of_one steps
+unfolding are_of_one
+one_none [] h = refl
+one_none (s ∷ rest) h = absurd (omega (arith, h))
+
+pub one_first : (steps : List Step) (n : ℕ) (z : Step) → 1 ≤ length steps → length steps ≤ n + 1 →
+    list_all (λ (u : Step). u.inv == (get_or steps 0 z).inv) (take n (drop 1 steps)) ≡ are_of_one steps
+unfolding are_of_one
+one_first [] n z h g = absurd (omega (arith, h))
+one_first (s ∷ rest) n z h g = ap (list_all (λ (u : Step). u.inv == s.inv)) (take_all n rest (omega (arith, g)))
+
+-- then no object has several
+pub one_few : (steps : List Step) → are_of_one steps ≡ true → (o : ℕ) → membership (trace steps o) ≡ Several → ⊥
+unfolding are_of_one
+one_few [] h o e = all_one [] 0 refl o e
+one_few (s ∷ rest) h o e = all_one (s ∷ rest) s.inv (rw (eq-eqb s.inv s.inv refl) h) o e
 
 -- a member once more tells nothing new
 pub again_only : (m : Membership) (i inv : ℕ) → m ≡ Only i → (i == inv) ≡ true → with_member m inv ≡ m

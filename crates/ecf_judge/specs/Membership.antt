@@ -1,5 +1,6 @@
 -- Which invocations have steps on an object, as far as a judge has to know.
-use Rattle.std.specs.Prelude.{◌≡◌, ℕ, ◌==◌, if◌then◌else◌, List, [], ◌∷◌, slice_index_or}
+use Rattle.std.specs.Prelude.{◌≡◌, ℕ, ◌==◌, if◌then◌else◌, Bool, true, List, [], ◌∷◌, slice_index_or}
+use Rattle.std.specs.List.{list_all}
 use Rattle.ecf_judge.specs.declared.membership.Membership.{Membership}
 use Rattle.ecf_judge.specs.declared.membership.Membership.TheVariants.{Nobody, Only, Several}
 use Rattle.ecf_lang.specs.declared.run.Step.{Step}
@@ -19,6 +20,11 @@ membership_from members (s ∷ later) = membership_from (with_member members s.i
 -- of a trace: no invocation, one, or several
 abbrev pub membership : List Step → Membership
 membership t = membership_from Nobody t
+
+-- all steps are of one invocation
+unfoldable pub are_of_one : List Step → Bool
+are_of_one [] = true
+are_of_one (s ∷ rest) = list_all (λ (u : Step). u.inv == s.inv) rest
 
 -- for each object with several invocations its trace
 abbrev pub TracesAre : List Step → List Membership → List (List Step) → Type 0

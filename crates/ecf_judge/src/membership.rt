@@ -2,7 +2,7 @@
 
 ghost use Rattle.std.specs.Prelude.{◌≡◌, ◌==◌, ◌≤◌, ◌<◌, ℕ, true, false, length, slice_index_or};
 ghost use Rattle.std.specs.List.{list_all};
-ghost use Rattle.ecf_judge.specs.Membership.{membership, with_member};
+ghost use Rattle.ecf_judge.specs.Membership.{are_of_one, membership, with_member};
 ghost use Rattle.ecf_judge.specs.declared.membership.Membership.TheVariants.{Nobody, Several};
 ghost use Rattle.ecf_lang.specs.declared.limits.TheConstants.{MAX_OBJECTS};
 ghost use Rattle.ecf_lang.specs.declared.run.Step.{Step};
@@ -43,13 +43,13 @@ fn all_of(steps: &[Step], inv: u16) -> bool
     true
 }
 
-/// Whether no two steps are of different invocations; then no object has several.
+/// Whether no two steps are of different invocations.
 pub fn is_of_one(steps: &[Step]) -> bool
-    ensures { result ≡ true → (o : ℕ) → membership (trace steps.now o) ≡ Membership.Several → ⊥ }
+    ensures { result ≡ are_of_one steps.now }
 {
     match steps {
         [] => true,
-        [first, ..] => all_of(steps, first.inv),
+        [first, rest @ ..] => all_of(rest, first.inv),
     }
 }
 
