@@ -1,50 +1,42 @@
 //! Appends the lines of entries to a text.
 
-ghost use Rattle.std.specs.Prelude.{◌≡◌, ◌++◌, map, OnOk};
+ghost use Rattle.std.specs.Prelude.{◌≡◌, ◌++◌, map, take, OnOk};
 ghost use Rattle.std.specs.List.{flat_map};
-ghost use Rattle.std.specs.Option.{option_copied};
 ghost use Rattle.std.specs.Arc.{arc_value};
-ghost use Rattle.ecf_texts.specs.Entries.{callee_text, call_arguments_text, first_call_text, further_call_text, request_text, tx_of, line_text, text_of_entries};
+ghost use Rattle.ecf_texts.specs.Entries.{callee_text, call_arguments_text, first_call_text, further_call_text, request_text, line_text, text_of_entries};
+ghost use Rattle.ecf_receipts.specs.Numbers.{CountsEntries};
 
-use crate::numbers::next_number;
+use crate::numbers::{Numbers, tx_of};
 use crate::receipts::write_receipt;
 use crate::words::{params_of, write_arguments, write_method, write_number, write_object};
 use ecf_lang::receipt::{Entry, Receipt};
 use ecf_lang::tx::{Tx, TxCall, TxRef};
 use ecf_lang::typed::Typed;
-use std::alloc::{AllocError, Global};
-use std::collections::BTreeMap;
+use std::alloc::AllocError;
 
-/// The lines of the entries from a place on; the entries before it are only counted.
+/// The lines of the entries from a place on, where those before it were counted; then all are counted.
 pub fn write_entries(
-    alloc: Global,
     text: &mut Vec<u8>,
     typed: &Typed,
     txs: &[TxRef],
     entries: &[Entry],
     from: usize,
+    numbers: &mut Numbers,
 ) -> Result<(), AllocError>
-    ensures { OnOk result (text.new.items
+    requires counted { CountsEntries (map arc_value txs.now) (take from entries.now) numbers.old.counts }
+    ensures text { OnOk result (text.new.items
         ≡ text.old.items ++ text_of_entries typed.now (map arc_value txs.now) entries.now from) }
+    ensures counts { OnOk result (CountsEntries (map arc_value txs.now) entries.now numbers.new.counts) }
 {
-    let mut numbers = BTreeMap::new(alloc);
-    for (index, entry) in entries.iter().enumerate() {
+    for index in from..entries.len() {
+        let entry = &entries[index];
         let Some(tx) = tx_of(txs, entry) else {
             continue;
         };
-        let number = next_number(&mut numbers, tx.submitter)?;
-        if index >= from {
-            write_line(text, typed, index + 1, number, tx, &entry.receipt)?;
-        }
+        let number = numbers.next(tx.submitter)?;
+        write_line(text, typed, index + 1, number, tx, &entry.receipt)?;
     }
     Ok(())
-}
-
-fn tx_of<'a>(txs: &'a [TxRef], entry: &Entry) -> Option<&'a Tx>
-    ensures { option_copied result ≡ tx_of (map arc_value txs.now) entry.now }
-{
-    let tx = txs.get(entry.row as usize)?;
-    Some(tx)
 }
 
 fn write_line(

@@ -3,10 +3,11 @@
 //! Whatever number names nothing of the contract is spelled by no bytes.
 #![tactic(auto)]
 
-ghost use Rattle.std.specs.Prelude.{◌≡◌, map, IfOk};
+ghost use Rattle.std.specs.Prelude.{◌≡◌, map, take, IfOk, OnOk};
 ghost use Rattle.std.specs.Arc.{arc_value};
 ghost use Rattle.ecf_texts.specs.Entries.{text_of_entries};
 ghost use Rattle.ecf_texts.specs.Journal.{head_text, tail_text, journal_text};
+ghost use Rattle.ecf_receipts.specs.Numbers.{CountsEntries};
 
 mod cells;
 mod entries;
@@ -16,6 +17,7 @@ mod words;
 
 use crate::cells::write_tail;
 use crate::entries::write_entries;
+pub use crate::numbers::Numbers;
 use ecf_lang::cell::Cell;
 use ecf_lang::receipt::{Entry, Stop};
 use ecf_lang::tx::TxRef;
@@ -42,8 +44,29 @@ pub fn print_entries(
     ensures { IfOk result (λ text.
         text.items ≡ text_of_entries typed.now (map arc_value txs.now) entries.now from) }
 {
+    let mut numbers = Numbers::new(alloc);
+    numbers.count(txs, &entries[..from.min(entries.len())])?;
+    print_further_entries(alloc, typed, txs, entries, from, &mut numbers)
+}
+
+/// The lines of a journal's entries from the place `from` on, as `print_entries`, where `numbers` has counted those
+/// before it; then it has counted all. So a journal that grows is printed part by part, and no entry is counted twice.
+/// After want of memory nothing is said of what was counted.
+pub fn print_further_entries(
+    alloc: Global,
+    typed: &Typed,
+    txs: &[TxRef],
+    entries: &[Entry],
+    from: usize,
+    numbers: &mut Numbers,
+) -> Result<Vec<u8>, AllocError>
+    requires counted { CountsEntries (map arc_value txs.now) (take from entries.now) numbers.old.counts }
+    ensures text { IfOk result (λ text.
+        text.items ≡ text_of_entries typed.now (map arc_value txs.now) entries.now from) }
+    ensures counts { OnOk result (CountsEntries (map arc_value txs.now) entries.now numbers.new.counts) }
+{
     let mut text = Vec::new(alloc);
-    write_entries(alloc, &mut text, typed, txs, entries, from)?;
+    write_entries(&mut text, typed, txs, entries, from, numbers)?;
     Ok(text)
 }
 
@@ -75,7 +98,7 @@ pub fn print_journal(
         text.items ≡ journal_text 2 typed.now (map arc_value txs.now) entries.now stop cells.now) }
 {
     let mut text = print_head(alloc)?;
-    write_entries(alloc, &mut text, typed, txs, entries, 0)?;
+    write_entries(&mut text, typed, txs, entries, 0, &mut Numbers::new(alloc))?;
     write_tail(&mut text, typed, stop, cells)?;
     Ok(text)
 }
