@@ -2,6 +2,7 @@
 use Rattle.std.proofs.Common.{◌≡◌, ℕ, zero, suc, ◌+◌, ◌-◌, ◌<◌, ◌≤◌, Bool, true, false, List, [], ◌∷◌, ◌++◌, length, Option, Some, None, Ok, Err, refl, sym, ap, subst, ◌∙◌, arith, append_assoc, append-nil, length-append}
 use Rattle.std.specs.Prelude.{is_some, not, nat_le, ◌||◌, if◌then◌else◌, Result, IfOk, OnOk, OnErr}
 use Rattle.std.proofs.lemmas.List.Concat.{flat_map-append}
+use Rattle.std.proofs.lemmas.List.Elements.{All-nil, All-cons, All-append}
 use Rattle.std.specs.Str.Lines.{strip_carriage_return}
 use Rattle.ecf_edge.specs.Chains.{Gave-nil, Gave-append}
 use Rattle.ecf_edge.specs.Source.{GaveSome}
@@ -21,7 +22,7 @@ use Rattle.ecf_stream.specs.declared.stream_reader.Reach.TheVariants as reach
 use Rattle.ecf_stream.specs.declared.stream_reader.Stage.{Stage}
 use Rattle.ecf_stream.specs.declared.stream_reader.Stage.TheVariants as stage
 use Rattle.ecf_stream.specs.LineState.{IsWithin}
-use Rattle.ecf_stream.specs.StreamState.{StreamState, IsSound, place_of, held_of, stopped_at, state_behind, is_reading, lines_at, lines_to_come, IsFine, given_at, given_yet, MayFollow, reach_at, reach_of, left_at, faults_at, with_txs, with_part, whole_lines, EndsUnskipped, IsUpToStop, Deals, at_line, HasLine, HasStop, HasNext, HasSaidBy, HasSaid, is_said, takes_out, NoFault, Reads}
+use Rattle.ecf_stream.specs.StreamState.{StreamState, IsSound, place_of, held_of, stopped_at, state_behind, is_reading, lines_at, lines_to_come, IsFine, given_at, given_yet, MayFollow, reach_at, reach_of, left_at, faults_at, with_txs, with_part, IsPlain, whole_lines, EndsUnskipped, IsUpToStop, Deals, at_line, HasLine, HasStop, HasNext, HasSaidBy, HasSaid, is_said, takes_out, NoFault, Reads}
 use Rattle.ecf_stream.proofs.FeedLaws.{none_passed}
 use Rattle.ecf_stream.proofs.SayingLaws.{said_line, said_last}
 use Rattle.ecf_stream.proofs.CauseLaws.{reach_of_line, no_control, unskipped}
@@ -142,6 +143,7 @@ whole_one line more = append_assoc (line ++ 10 ∷ []) [] more ∙ append_assoc 
 none_dealt : (old new : StreamState) (piece : List ℕ) → held_of old ++ piece ≡ held_of new → (place_of new).lines ≡ (place_of old).lines → (old.stage ≡ stage.Reading → IsUpToStop new.stage (place_of new).lines) → is_reading new.stage ≡ false → (typed : Typed) (gives : StreamSaid → StreamSaid) → Deals typed old new piece gives []
 none_dealt old new piece held count up_to ended typed gives = record {
   kept = held;
+  unbroken = All-nil IsPlain;
   count = omega (arith, count);
   up_to_stop = up_to;
   say = λ reading. not_reading new.stage ended reading;
@@ -175,6 +177,7 @@ line_deals : (typed : Typed) (old new : StreamState) (line rest piece : List ℕ
     HasSaidBy r (at_line old line rest true) new false saying → held_of old ++ piece ≡ line ++ (10 ∷ rest) → Deals typed old new piece (said_first saying old.txs) (line ∷ [])
 line_deals typed old new line rest piece saying r w e h bytes = record {
   kept = bytes ∙ sym (whole_one line rest) ∙ ap (λ held. whole_lines (line ∷ []) ++ held) (sym (held_line r old new line rest saying h));
+  unbroken = All-cons IsPlain line [] w.plain (All-nil IsPlain);
   count = lines_line r old new line rest saying h;
   up_to_stop = λ reading. up_to_line r old new line rest saying h;
   say = say_line typed old new line rest saying r w e h;
@@ -428,6 +431,7 @@ both_deal typed a b d p q first second both k l r e s g =
           ∙ ap (λ held. whole_lines k ++ held) s.kept
           ∙ sym (append_assoc (whole_lines k) (whole_lines l) (held_of d))
           ∙ ap (λ bytes. bytes ++ held_of d) (sym lines);
+      unbroken = All-append IsPlain k l r.unbroken s.unbroken;
       count = omega (arith, one, two, all);
       up_to_stop = λ reading. s.up_to_stop e;
       say = λ reading more failed.
@@ -484,6 +488,7 @@ nothing_read typed s left faults = record {
   reached = λ reading. sym (open_at s reading);
   deals = record {
     kept = append-nil (held_of s);
+    unbroken = All-nil IsPlain;
     count = omega arith;
     up_to_stop = λ reading. subst (λ at. IsUpToStop at (place_of s).lines) (sym reading) tt;
     say = λ reading more failed. refl;

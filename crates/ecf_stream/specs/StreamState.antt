@@ -1,5 +1,5 @@
 -- What a reader of a stream is to give yet, and what a call of it read.
-use Rattle.std.specs.Prelude.{◌≡◌, ℕ, ◌+◌, ◌-◌, ◌<◌, ◌≤◌, Bool, true, false, if◌then◌else◌, List, [], ◌∷◌, ◌++◌, length, drop, Option, Some, None, Ok, Err}
+use Rattle.std.specs.Prelude.{◌≡◌, ℕ, ◌+◌, ◌-◌, ◌<◌, ◌≤◌, Bool, true, false, if◌then◌else◌, List, [], ◌∷◌, ◌++◌, length, drop, Option, Some, None, Ok, Err, All}
 use Rattle.ecf_edge.specs.Count.{counted_up}
 use Rattle.ecf_edge.specs.Source.{Gave, IsAtEnd}
 use Rattle.ecf_lang.specs.declared.limits.TheConstants.{MAX_LINE_BYTES, MAX_STREAM_BYTES, MAX_TRANSACTIONS}
@@ -13,7 +13,7 @@ use Rattle.std.specs.Str.Lines.{strip_carriage_return}
 use Rattle.ecf_lines.specs.declared.saying.Saying.{Saying}
 use Rattle.ecf_lines.specs.declared.saying.Saying.TheVariants.{Nothing, TakesOut}
 use Rattle.ecf_lines.specs.Line.{Reading, is_skipped}
-use Rattle.ecf_lines.specs.Stream.{Place, Off, StreamSaid, nothing_said, lines_of, txs_with, saying_of, said_from}
+use Rattle.ecf_lines.specs.Stream.{Place, Off, StreamSaid, nothing_said, is_lf, lines_of, txs_with, saying_of, said_from}
 use Rattle.ecf_stream.specs.declared.stream_reader.Stage.{Stage}
 use Rattle.ecf_stream.specs.declared.stream_reader.Stage.TheVariants as stage
 use Rattle.ecf_stream.specs.declared.stream_reader.TheConstants.{READ_BYTES}
@@ -153,6 +153,10 @@ abbrev pub left_at : Reach → Option (List ℕ) → Type 0
 left_at reach.AtEnd left = IsAtEnd left
 left_at other left = Unit {0}
 
+-- there is no LF in the line
+abbrev pub IsPlain : List ℕ → Type 0
+IsPlain line = All (λ byte. is_lf byte ≡ false) line
+
 -- lines, each with the LF that ended it
 abbrev pub whole_lines : List (List ℕ) → List ℕ
 whole_lines lines = flat_map (λ line. line ++ 10 ∷ []) lines
@@ -169,9 +173,11 @@ abbrev pub IsUpToStop : Stage → ℕ → Type 0
 IsUpToStop (stage.Ended (Some stop)) lines = lines ≤ stop.line
 IsUpToStop other lines = Unit {0}
 
--- Whole lines were dealt with: all that was held or came, but for what is held now. Where reading goes on, they give what the call gave.
+-- Whole lines were dealt with, none of which has an LF in it: all that was held or came, but for what is held now. Where reading goes on,
+-- they give what the call gave.
 pub record Deals (typed : Typed) (old new : StreamState) (piece : List ℕ) (gives : StreamSaid → StreamSaid) (lines : List (List ℕ)) : Type 0 where
   pub kept : held_of old ++ piece ≡ whole_lines lines ++ held_of new
+  pub unbroken : All IsPlain lines
   pub count : (place_of new).lines ≡ (place_of old).lines + length lines
   pub up_to_stop : old.stage ≡ stage.Reading → IsUpToStop new.stage (place_of new).lines
   pub say : new.stage ≡ stage.Reading → (more : List ℕ) (failed : Bool) →

@@ -9,7 +9,7 @@ ghost use Rattle.ecf_lines.specs.Stream.{said_first, txs_with};
 ghost use Rattle.ecf_stream.specs.Lookup.{Finds};
 ghost use Rattle.ecf_stream.specs.LineState.{opened, answer_to};
 ghost use Rattle.ecf_stream.specs.Saying.{SayingFits};
-ghost use Rattle.ecf_stream.specs.StreamState.{first_state, held_of, stop_at, state_behind, state_fed, stopped_at, is_reading, lines_to_come, rest_at, reach_of, left_at, faults_at, Reads, with_part, HasNext, HasSaid, is_said, takes_out, NoFault, IsPart, IsEnded, IsFine, IsSound};
+ghost use Rattle.ecf_stream.specs.StreamState.{first_state, held_of, place_of, stop_at, state_behind, state_fed, stopped_at, is_reading, lines_to_come, rest_at, reach_of, left_at, faults_at, Reads, with_part, HasNext, HasSaid, is_said, takes_out, NoFault, IsPart, IsEnded, IsFine, IsSound};
 
 use crate::line_reader::{Fed, LineReader};
 use crate::lookup::Lookup;
@@ -134,9 +134,14 @@ impl StreamReader {
         ensures fits { IfOk result (λ part. All (Fits typed.now) (map arc_value part.txs.items)) }
         ensures controls { OnOk result (self.new.controls ≡ self.old.controls) }
         ensures no_off { self.old.controls ≡ false → IfOk result (λ part. part.off ≡ None) }
+        ensures counts { IfOk result (λ part. self.new.txs ≡ self.old.txs + length part.txs.items) }
 
         // What was read and not dealt with is at most what one read gives, and a line.
         ensures little { length (held_of self.new) ≤ READ_BYTES + MAX_LINE_BYTES }
+
+        // What was dealt with is within the limits of a stream.
+        ensures within { (place_of self.new).bytes ≤ MAX_STREAM_BYTES }
+        ensures few { self.new.txs ≤ MAX_TRANSACTIONS }
 
         // The source was read to its end where there is no stop, and to a failed read exactly where the stop is `read`.
         ensures end { self.old.stage ≡ Stage.Reading → OnOk result (left_at (reach_of self.new) (S.left source.new)) }
@@ -209,6 +214,7 @@ impl StreamReader {
         ensures fits { IfOk result (λ part. All (Fits typed.now) (map arc_value part.txs.items)) }
         ensures controls { OnOk result (self.new.controls ≡ self.old.controls) }
         ensures no_off { self.old.controls ≡ false → IfOk result (λ part. part.off ≡ None) }
+        ensures counts { IfOk result (λ part. self.new.txs ≡ self.old.txs + length part.txs.items) }
         ensures end { OnOk result (left_at (reach_of self.new) (S.left source.new)) }
         ensures counted { OnOk result (S.faults source.new ≡ faults_at (reach_of self.new) (S.faults source.old)) }
         ensures lost_bytes { OnErr result (GaveSome (S.left source.old) (S.left source.new)) }
