@@ -1,0 +1,5 @@
+pub mod Standing
+pub mod RowSet
+pub mod Links
+pub mod Kept
+pub mod Laws
