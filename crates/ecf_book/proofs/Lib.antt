@@ -1,0 +1,9 @@
+mod FindLaws
+mod OpenLaws
+mod HistoryLaws
+mod RoomLaws
+mod StepLaws
+mod ReplyLaws
+mod SerialLaws
+mod EndLaws
+mod ExtendLaws
