@@ -1,5 +1,8 @@
 pub mod StreamLaws
 pub mod JournalLaws
+pub mod TextLaws
+pub mod BookLaws
+pub mod RoundLaws
 pub mod DeliveryLaws
 pub mod TypeLaws
 pub mod ContractLaws

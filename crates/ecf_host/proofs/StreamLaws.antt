@@ -1,131 +1,33 @@
--- Reading a stream part by part is reading all of it.
-use Rattle.std.proofs.Common.{◌≡◌, ◌≢◌, ℕ, suc, ◌<◌, ◌≤◌, ◌+◌, ◌++◌, Bool, true, false, List, [], ◌∷◌, Option, Some, None, IfSome, Result, Ok, Err, map, length, refl, ap, sym, subst, ◌∙◌, arith, append_assoc, append-nil, length-append, inl, inr}
-use Rattle.std.specs.Prelude.{nat_lt, if◌then◌else◌, OnErr}
-use Rattle.std.proofs.lemmas.Bool.Decides.{nat_tests}
-use Rattle.std.proofs.lemmas.List.{map-append}
+-- Reading a stream round by round is reading all of it.
+use Rattle.std.proofs.Common.{◌≡◌, ◌≢◌, ℕ, suc, ◌<◌, ◌≤◌, ◌+◌, ◌++◌, Bool, true, false, List, [], ◌∷◌, Option, Some, None, IfSome, Ok, Err, length, refl, ap, sym, subst, ◌∙◌, arith, append_assoc, append-nil, length-append}
+use Rattle.std.specs.Prelude.{nat_lt, not, if◌then◌else◌}
+use Rattle.std.proofs.lemmas.List.Concat.{flat_map-append}
+use Rattle.std.proofs.lemmas.List.Elements.{All-nil, All-append}
 use Rattle.std.proofs.lemmas.List.Splits.{length-slice_split}
-use Rattle.std.specs.Str.Lines.{strip_carriage_return}
 use Rattle.ecf_edge.specs.Chains.{Gave-nil, Gave-append}
 use Rattle.ecf_edge.specs.Source.{Gave, IsAtEnd}
 use Rattle.ecf_lang.specs.declared.receipt.Stop.{Stop}
 use Rattle.ecf_lang.specs.declared.receipt.StopCause.{StopCause}
 use Rattle.ecf_lang.specs.declared.receipt.StopCause.TheVariants.{Form, Object, Method, Fuel, Arity, Arg, Long, Many, Bytes, Read}
-use Rattle.ecf_lang.specs.declared.limits.TheConstants.{MAX_LINE_BYTES, MAX_STREAM_BYTES, MAX_TRANSACTIONS}
+use Rattle.ecf_lang.specs.declared.limits.TheConstants.{MAX_LINE_BYTES, MAX_ROUND, MAX_STREAM_BYTES}
 use Rattle.ecf_lang.specs.declared.tx.Tx.{Tx}
 use Rattle.ecf_lang.specs.declared.typed.Typed.{Typed}
 use Rattle.ecf_lines.specs.declared.saying.Saying.{Saying}
 use Rattle.ecf_lines.specs.declared.saying.Saying.TheVariants.{Nothing, Asks, TakesOut}
-use Rattle.ecf_lines.specs.Line.{Reading, ◌>>=◌, words, is_skipped, tx_of_words}
-use Rattle.ecf_lines.specs.Stream.{Place, StreamSaid, is_lf, lines_of, limit_passed, txs_with, request_of, saying_of, unless_passed, saying_at, last_saying_at, place_behind, nothing_said, said_with, said_from, stream_said}
+use Rattle.ecf_lines.specs.Line.{Reading}
+use Rattle.ecf_lines.specs.Stream.{Place, StreamSaid, is_lf, lines_of, saying_of, unless_passed, saying_at, last_saying_at, place_behind, nothing_said, said_with, said_from, stream_said}
 use Rattle.ecf_stream.specs.declared.stream_reader.Reach.{Reach}
 use Rattle.ecf_stream.specs.declared.stream_reader.Reach.TheVariants as reach
+use Rattle.ecf_stream.specs.declared.stream_reader.Stage.{Stage}
 use Rattle.ecf_stream.specs.declared.stream_reader.Stage.TheVariants as stage
-use Rattle.ecf_stream.specs.StreamState.{StreamState, first_state, given_at, given_yet, with_txs, with_part, MayFollow, reach_by, reach_at, faults_at, left_at, IsPart, Reads}
-use Rattle.ecf_host.specs.Stream.{IsReadFault, ReadsToEnd, IsStream, IsLost}
+use Rattle.ecf_stream.specs.StreamState.{StreamState, first_state, held_of, place_of, given_at, given_yet, with_txs, MayFollow, IsPlain, whole_lines, EndsUnskipped, IsUpToStop, reach_by, reach_at, faults_at, left_at}
+use Rattle.ecf_host.specs.declared.rounds.RoundEnd.{RoundEnd}
+use Rattle.ecf_host.specs.Rounds.{just, HasGivenLines, HasReadRounds, IsUpTo, IsRead}
+use Rattle.ecf_host.specs.Rounds.{IsRead as round}
+use Rattle.ecf_host.specs.Run.{IsRoundRead}
+use Rattle.ecf_host.specs.Stream.{IsReadFault, ReadsToEnd, IsStream}
 use Rattle.ecf_host.specs.Stream.IsStream.{read_on, cut_off}
 use Rattle.ecf_host.specs.World.{SourceState}
-
--- ---- without control lines nothing is taken out
-
-TakesNothingOut : Reading Saying → Type 0
-TakesNothingOut (Ok (TakesOut watch)) = ⊥
-TakesNothingOut other = Unit {0}
-
-asks_nothing_out : (asked : Reading Tx) → TakesNothingOut (asked >>= (λ tx. Ok (Asks tx)))
-unfolding TakesNothingOut
-asks_nothing_out (Ok tx) = tt
-asks_nothing_out (Err cause) = tt
-
-either_way : (test : Bool) (some other : Reading Saying) → TakesNothingOut some → TakesNothingOut other → TakesNothingOut (if test then some else other)
-either_way true some other h k = h
-either_way false some other h k = k
-
-passed_nothing_out : (passed : Option StopCause) (reading : Reading Saying) → TakesNothingOut reading → TakesNothingOut (unless_passed passed reading)
-unfolding TakesNothingOut
-passed_nothing_out None reading h = h
-passed_nothing_out (Some cause) reading h = tt
-
-line_takes_nothing_out : (typed : Typed) (txs : ℕ) (line : List ℕ) → TakesNothingOut (saying_of typed false txs line)
-unfolding TakesNothingOut
-line_takes_nothing_out typed txs line = either_way (is_skipped line) (Ok Nothing) (request_of typed txs line) tt
-    (either_way (nat_lt txs MAX_TRANSACTIONS) (tx_of_words typed (words line) >>= (λ tx. Ok (Asks tx))) (Err Many) (asks_nothing_out (tx_of_words typed (words line))) tt)
-
-first_no_offs : (at : Place) (reading : Reading Saying) (rest : Saying → StreamSaid) → TakesNothingOut reading → ((saying : Saying) → (rest saying).offs ≡ []) → (said_with at reading rest).offs ≡ []
-unfolding TakesNothingOut
-first_no_offs at (Err cause) rest h k = refl
-first_no_offs at (Ok Nothing) rest h k = k Nothing
-first_no_offs at (Ok (Asks tx)) rest h k = k (Asks tx)
-first_no_offs at (Ok (TakesOut watch)) rest h k = absurd h
-
-at_takes_nothing_out : (typed : Typed) (at : Place) (ended : Bool) (line : List ℕ) → TakesNothingOut (saying_at typed false at ended line)
-at_takes_nothing_out typed at ended line =
-    passed_nothing_out (limit_passed MAX_LINE_BYTES MAX_STREAM_BYTES at.bytes ended line) (saying_of typed false at.txs (strip_carriage_return line)) (line_takes_nothing_out typed at.txs (strip_carriage_return line))
-
-last_takes_nothing_out : (typed : Typed) (at : Place) (failed : Bool) (last : List ℕ) → TakesNothingOut (last_saying_at typed false at failed last)
-unfolding TakesNothingOut
-last_takes_nothing_out typed at false last = at_takes_nothing_out typed at false last
-last_takes_nothing_out typed at true last = passed_nothing_out (limit_passed MAX_LINE_BYTES MAX_STREAM_BYTES at.bytes false last) (Err Read) tt
-
-no_offs : (typed : Typed) (at : Place) (lines : List (List ℕ)) (failed : Bool) → (said_from typed false at lines failed).offs ≡ []
-unfolding said_from
-no_offs typed at [] failed = refl
-no_offs typed at (last ∷ []) failed = first_no_offs at (last_saying_at typed false at failed last) (λ saying. nothing_said) (last_takes_nothing_out typed at failed last) (λ saying. refl)
-no_offs typed at (line ∷ next ∷ more) failed =
-    first_no_offs at (saying_at typed false at true line) (λ saying. said_from typed false (place_behind at line saying) (next ∷ more) failed)
-    (at_takes_nothing_out typed at true line) (λ saying. no_offs typed (place_behind at line saying) (next ∷ more) failed)
-
--- ---- a stream asks for no more transactions than may be
-
-AsksFew : ℕ → Reading Saying → Type 0
-AsksFew txs (Ok (Asks tx)) = txs < MAX_TRANSACTIONS
-AsksFew txs other = Unit {0}
-
-asks_few : (txs : ℕ) (asked : Reading Tx) (test : Bool) → nat_lt txs MAX_TRANSACTIONS ≡ test → AsksFew txs (if test then (asked >>= (λ tx. Ok (Asks tx))) else Err Many)
-unfolding AsksFew
-asks_few txs (Ok tx) true is = grind (arith, nat_tests, is)
-asks_few txs (Err cause) true is = tt
-asks_few txs asked false is = tt
-
-skipped_or_few : (txs : ℕ) (skipped : Bool) (reading : Reading Saying) → AsksFew txs reading → AsksFew txs (if skipped then Ok Nothing else reading)
-unfolding AsksFew
-skipped_or_few txs true reading h = tt
-skipped_or_few txs false reading h = h
-
-passed_or_few : (txs : ℕ) (passed : Option StopCause) (reading : Reading Saying) → AsksFew txs reading → AsksFew txs (unless_passed passed reading)
-unfolding AsksFew
-passed_or_few txs None reading h = h
-passed_or_few txs (Some cause) reading h = tt
-
-line_asks_few : (typed : Typed) (txs : ℕ) (line : List ℕ) → AsksFew txs (saying_of typed false txs line)
-line_asks_few typed txs line = skipped_or_few txs (is_skipped line) (request_of typed txs line) (asks_few txs (tx_of_words typed (words line)) (nat_lt txs MAX_TRANSACTIONS) refl)
-
-at_asks_few : (typed : Typed) (at : Place) (ended : Bool) (line : List ℕ) → AsksFew at.txs (saying_at typed false at ended line)
-at_asks_few typed at ended line =
-    passed_or_few at.txs (limit_passed MAX_LINE_BYTES MAX_STREAM_BYTES at.bytes ended line) (saying_of typed false at.txs (strip_carriage_return line)) (line_asks_few typed at.txs (strip_carriage_return line))
-
-last_asks_few : (typed : Typed) (at : Place) (failed : Bool) (last : List ℕ) → AsksFew at.txs (last_saying_at typed false at failed last)
-unfolding AsksFew
-last_asks_few typed at false last = at_asks_few typed at false last
-last_asks_few typed at true last = passed_or_few at.txs (limit_passed MAX_LINE_BYTES MAX_STREAM_BYTES at.bytes false last) (Err Read) tt
-
-first_few : (at : Place) (reading : Reading Saying) (rest : Saying → StreamSaid) → at.txs ≤ MAX_TRANSACTIONS → AsksFew at.txs reading →
-    ((saying : Saying) → txs_with saying at.txs ≤ MAX_TRANSACTIONS → length (rest saying).txs + txs_with saying at.txs ≤ MAX_TRANSACTIONS) → length (said_with at reading rest).txs + at.txs ≤ MAX_TRANSACTIONS
-unfolding AsksFew
-first_few at (Err cause) rest within h k = omega (arith, within)
-first_few at (Ok Nothing) rest within h k = k Nothing within
-first_few at (Ok (Asks tx)) rest within h k = omega (arith, k (Asks tx) (omega (arith, h)))
-first_few at (Ok (TakesOut watch)) rest within h k = k (TakesOut watch) within
-
-few_from : (typed : Typed) (at : Place) (lines : List (List ℕ)) (failed : Bool) → at.txs ≤ MAX_TRANSACTIONS → length (said_from typed false at lines failed).txs + at.txs ≤ MAX_TRANSACTIONS
-unfolding said_from
-few_from typed at [] failed within = omega (arith, within)
-few_from typed at (last ∷ []) failed within = first_few at (last_saying_at typed false at failed last) (λ saying. nothing_said) within (last_asks_few typed at failed last) (λ saying h. omega (arith, h))
-few_from typed at (line ∷ next ∷ more) failed within =
-    first_few at (saying_at typed false at true line) (λ saying. said_from typed false (place_behind at line saying) (next ∷ more) failed) within
-    (at_asks_few typed at true line) (λ saying h. few_from typed (place_behind at line saying) (next ∷ more) failed h)
-
-few_said : (typed : Typed) (bytes : List ℕ) (failed : Bool) → length (stream_said typed false 0 bytes failed).txs ≤ MAX_TRANSACTIONS
-few_said typed bytes failed = let few = few_from typed (record { lines = 0; bytes = 0; txs = 0 }) (lines_of bytes) failed (omega arith) in omega (arith, few)
 
 -- ---- behind a failed read there is a stop, and in the last line it tells of that or of a limit
 
@@ -168,47 +70,7 @@ unfolding EndsCut
 not_cut bytes None cut fault ends = cut
 not_cut bytes (Some stop) cut fault ends = fault (cut ends.0 ends.1 ends.2)
 
--- ---- parts
-
--- a fact, said of the error alone
-pub on_err : {T E Q : Type 0} (result : Result T E) → Q → OnErr result Q
-on_err (Ok value) fact = tt
-on_err (Err error) fact = fact
-
-length_mapped : {A B : Type 0} (f : A → B) (items : List A) → length (map f items) ≡ length items
-length_mapped f [] = refl
-length_mapped f (item ∷ items) = ap suc (length_mapped f items)
-
-pub map_both : {A B : Type 0} (f : A → B) (both first second : List A) → both ≡ first ++ second → map f both ≡ map f first ++ map f second
-map_both f both first second is = ap (map f) is ∙ map-append f first second
-
-pub length_as_mapped : {A B : Type 0} (f : A → B) (items : List A) (mapped : List B) → map f items ≡ mapped → length mapped ≡ length items
-length_as_mapped f items mapped is = ap length (sym is) ∙ length_mapped f items
-
-pub length_of_both : {A : Type 0} (both first second : List A) → both ≡ first ++ second → length both ≡ length first + length second
-length_of_both both first second is = ap length is ∙ length-append first second
-
--- the stream was read so far: these transactions, and then what the reader is to give yet
-pub record IsReading (typed : Typed) (before after : SourceState) (reader : StreamState) (txs : List Tx) : Type 0 where
-  pub bytes : List ℕ
-  pub gave : Gave before.left bytes after.left
-  pub faults : after.faults ≡ before.faults
-  pub said : (more : List ℕ) (failed : Bool) → stream_said typed false 0 (bytes ++ more) failed ≡ with_txs txs (given_yet typed reader more failed)
-
--- no more transactions were read than may be
-pub few_read : (typed : Typed) (before after : SourceState) (reader : StreamState) (txs : List Tx) → IsReading typed before after reader txs → length txs ≤ MAX_TRANSACTIONS
-few_read typed before after reader txs h =
-    let few = few_said typed (h.bytes ++ []) false in
-    let same = ap (λ (said : StreamSaid). length said.txs) (h.said [] false) in
-    let both = length-append txs (given_yet typed reader [] false).txs in
-    omega (arith, few, same, both)
-
-pub starts : (typed : Typed) (source : SourceState) → IsReading typed source source (first_state false 0) []
-starts typed source = record { bytes = []; gave = Gave-nil source.left; faults = refl; said = λ more failed. refl }
-
--- what comes of a stream that says no more than this
-abbrev pub all_said : List Tx → Option Stop → StreamSaid
-all_said txs stop = record { txs = txs; offs = []; stop = stop }
+-- ---- where reading ended
 
 told_at_end : (first left : Option (List ℕ)) (bytes : List ℕ) → Gave first bytes left → IsAtEnd left → IfSome first (λ all. all ≡ bytes)
 told_at_end first None bytes gave end = subst (λ o. IfSome o (λ all. all ≡ bytes)) (sym gave) tt
@@ -226,7 +88,7 @@ told_with_rest first (Some rest) bytes gave = subst (λ o. IfSome o (λ all. all
 module _ (typed : Typed) (before after : SourceState) (bytes : List ℕ) (txs : List Tx) (stop : Option Stop) (gave : Gave before.left bytes after.left) where
   -- reading ended where it came so far
   is_stream : (far : Reach) → left_at far after.left → after.faults ≡ faults_at far before.faults → (far ≡ reach.Failed → IsReadFault stop) → (IsReadFault stop → far ≡ reach.Failed) →
-      ((more : List ℕ) (failed : Bool) → MayFollow far more failed → stream_said typed false 0 (bytes ++ more) failed ≡ all_said txs stop) → IsStream typed before after (all_said txs stop)
+      ((more : List ℕ) (failed : Bool) → MayFollow far more failed → stream_said typed false 0 (bytes ++ more) failed ≡ just txs stop) → IsStream typed before after (just txs stop)
   is_stream reach.AtEnd end counted fault unread said = read_on (record {
     bytes = bytes;
     told = told_at_end before.left after.left bytes gave end;
@@ -255,34 +117,6 @@ module _ (typed : Typed) (before after : SourceState) (bytes : List ℕ) (txs : 
     faults = counted;
   })
 
--- ---- a part more
-
-module _ (typed : Typed) (before mid after : SourceState) (old new : StreamState) (txs part : List Tx) (so_far : IsReading typed before mid old txs) where
-  abbrev bytes_with : List ℕ → List ℕ
-  bytes_with piece = so_far.bytes ++ piece
-
-  gave_with : (piece : List ℕ) → Gave mid.left piece after.left → Gave before.left (bytes_with piece) after.left
-  gave_with piece gave = Gave-append before.left mid.left after.left so_far.bytes piece so_far.gave gave
-
-  -- what was to be given is what the part has, and then what the reader is to give yet
-  said_with_part : (piece more : List ℕ) (failed : Bool) (off : Option ℕ) → given_yet typed old (piece ++ more) failed ≡ with_part part old.txs off (given_yet typed new more failed) →
-      stream_said typed false 0 (bytes_with piece ++ more) failed ≡ with_txs txs (with_part part old.txs off (given_yet typed new more failed))
-  said_with_part piece more failed off is =
-      ap (λ b. stream_said typed false 0 b failed) (append_assoc so_far.bytes piece more)
-      ∙ so_far.said (piece ++ more) failed
-      ∙ ap (with_txs txs) is
-
-  -- no part takes a watch out
-  takes_none_out : (piece more : List ℕ) (failed : Bool) (off : Option ℕ) → given_yet typed old (piece ++ more) failed ≡ with_part part old.txs off (given_yet typed new more failed) → off ≡ None
-  takes_none_out piece more failed None is = refl
-  takes_none_out piece more failed (Some watch) is =
-      let none : (stream_said typed false 0 (bytes_with piece ++ more) failed).offs ≡ [] = no_offs typed (record { lines = 0; bytes = 0; txs = 0 }) (lines_of (bytes_with piece ++ more)) failed in
-      let some = ap (λ (s : StreamSaid). s.offs) (said_with_part piece more failed (Some watch) is) in
-      absurd (cc)
-
-  with_both : (rest : StreamSaid) → with_txs txs (with_txs part rest) ≡ with_txs (txs ++ part) rest
-  with_both rest = ap (λ ts. let said : StreamSaid = record { txs = ts; offs = rest.offs; stop = rest.stop } in said) (sym (append_assoc txs part rest.txs))
-
 -- a reading failed exactly where the stop is that of a failed read
 not_failed : (is_whole : Bool) → (if is_whole then reach.Open else reach.AtEnd) ≡ reach.Failed → ⊥
 not_failed true is = cc
@@ -308,72 +142,163 @@ failed_of_fault : (stop : Option Stop) (is_whole : Bool) → IsReadFault stop �
 failed_of_fault None is_whole fault = absurd fault
 failed_of_fault (Some stop) is_whole fault = ap (λ cause. reach_by cause is_whole) fault
 
--- something may follow, however far the source was read
-may_follow : (far : Reach) → (more : List ℕ) × ((failed : Bool) × MayFollow far more failed)
-may_follow reach.Open = ([], (false, tt))
-may_follow reach.AtEnd = ([], (false, (refl, refl)))
-may_follow reach.Failed = ([], (true, (refl, refl)))
+-- ---- a round more
 
-module _ (typed : Typed) (before mid after : SourceState) (old new : StreamState) (txs part : List Tx) (off : Option ℕ) (settled : Bool) (so_far : IsReading typed before mid old txs)
-    (going : old.stage ≡ stage.Reading) (reads : Reads typed old new mid.left after.left mid.faults after.faults (with_part part old.txs off) settled) where
-  no_off : off ≡ None
-  no_off = let next = may_follow reads.far in takes_none_out typed before mid after old new txs part so_far reads.piece next.0 next.1.0 off (reads.said next.0 next.1.0 next.1.1)
+-- behind whole lines nothing is said of a line without bytes
+not_over : (bytes : ℕ) → bytes ≤ MAX_STREAM_BYTES → nat_lt MAX_STREAM_BYTES (bytes + 0) ≡ false
+not_over bytes h = grind arith
 
-  says : (more : List ℕ) (failed : Bool) → MayFollow reads.far more failed → stream_said typed false 0 ((so_far.bytes ++ reads.piece) ++ more) failed ≡ with_txs (txs ++ part) (given_yet typed new more failed)
-  says more failed follows =
-      said_with_part typed before mid after old new txs part so_far reads.piece more failed off (reads.said more failed follows)
-      ∙ ap (λ o. with_txs txs (with_part part old.txs o (given_yet typed new more failed))) no_off
-      ∙ with_both typed before mid after old new txs part so_far (given_yet typed new more failed)
+empty_line : (typed : Typed) (at : Place) → at.bytes ≤ MAX_STREAM_BYTES → said_from typed false at (lines_of []) false ≡ nothing_said
+unfolding said_from
+empty_line typed at h = ap (λ b. said_with at (unless_passed (if b then Some Bytes else None) (saying_of typed false at.txs [])) (λ saying. nothing_said)) (not_over at.bytes h)
 
-  gave : Gave before.left (so_far.bytes ++ reads.piece) after.left
-  gave = gave_with typed before mid after old new txs part so_far reads.piece reads.gave
+-- the stream was read so far: these lines, which say these transactions, and what the reader holds
+pub record IsReading (typed : Typed) (before now : SourceState) (reader : StreamState) (txs : List Tx) : Type 0 where
+  pub lines : List (List ℕ)
+  pub given : HasGivenLines before now lines (held_of reader)
+  pub count : (place_of reader).lines ≡ length lines
+  pub within : (place_of reader).bytes ≤ MAX_STREAM_BYTES
+  pub say : (more : List ℕ) (failed : Bool) → stream_said typed false 0 (whole_lines lines ++ more) failed ≡ with_txs txs (said_from typed false (place_of reader) (lines_of more) failed)
+  pub no_fault : now.faults ≡ before.faults
 
-  far_open : new.stage ≡ stage.Reading → reads.far ≡ reach.Open
-  far_open is = reads.reached going ∙ ap (λ at. reach_at at new.lines.is_whole) is
+unfoldable pub starts : (typed : Typed) (source : SourceState) → IsReading typed source source (first_state false 0) []
+starts typed source = record {
+  lines = [];
+  given = record { unbroken = All-nil IsPlain; gave = Gave-nil source.left };
+  count = refl;
+  within = omega arith;
+  say = λ more failed. refl;
+  no_fault = refl;
+}
+
+-- whole rounds, and whatever was read behind them
+pub read_rounds : (typed : Typed) (before now after : SourceState) (reader : StreamState) (txs : List Tx) (r : IsReading typed before now reader txs) (more : List ℕ) → Gave now.left more after.left → after.faults ≡ now.faults →
+    HasReadRounds typed before after txs r.lines (held_of reader ++ more)
+read_rounds typed before now after reader txs r more gave faults = record {
+  given = record {
+    unbroken = r.given.unbroken;
+    gave = subst (λ bytes. Gave before.left bytes after.left) (append_assoc (whole_lines r.lines) (held_of reader) more)
+        (Gave-append before.left now.left after.left (whole_lines r.lines ++ held_of reader) more r.given.gave gave);
+  };
+  say = ap (λ bytes. stream_said typed false 0 bytes false) (sym (append-nil (whole_lines r.lines)))
+      ∙ r.say [] false
+      ∙ ap (with_txs txs) (empty_line typed (place_of reader) r.within)
+      ∙ ap (λ ts. just ts None) (append-nil txs);
+  no_fault = faults ∙ r.no_fault;
+}
+
+pub rounds_read : (typed : Typed) (before now : SourceState) (reader : StreamState) (txs : List Tx) (r : IsReading typed before now reader txs) → HasReadRounds typed before now txs r.lines (held_of reader)
+rounds_read typed before now reader txs r =
+    subst (HasReadRounds typed before now txs r.lines) (append-nil (held_of reader)) (read_rounds typed before now now reader txs r [] (Gave-nil now.left) refl)
+
+up_to : (stop : Option Stop) (lines : List (List ℕ)) (count : ℕ) → count ≡ length lines → IsUpToStop (stage.Ended stop) count → IsUpTo stop lines
+up_to None lines count is h = tt
+up_to (Some stop) lines count is h = omega (arith, is, h)
+
+ends_behind : (first second : List (List ℕ)) → EndsUnskipped second → EndsUnskipped (first ++ second)
+ends_behind first second h = record {
+  front = first ++ h.front;
+  line = h.line;
+  are = ap (λ lines. first ++ lines) h.are ∙ sym (append_assoc first h.front (h.line ∷ []));
+  unskipped = h.unskipped;
+}
+
+module _ (typed : Typed) (before mid after : SourceState) (old new : StreamState) (txs latest : List Tx) (end : RoundEnd) (so_far : IsReading typed before mid old txs)
+    (going : old.stage ≡ stage.Reading) (controls : old.controls ≡ false) (read : IsRoundRead typed old new mid after latest end) where
+  abbrev pub lines : List (List ℕ)
+  lines = so_far.lines ++ read.reads.lines
+
+  both_lines : whole_lines lines ≡ whole_lines so_far.lines ++ whole_lines read.reads.lines
+  both_lines = flat_map-append (λ (line : List ℕ). line ++ 10 ∷ []) so_far.lines read.reads.lines
+
+  -- what was held and came is whole lines, and what is held now
+  bytes_are : (whole_lines so_far.lines ++ held_of old) ++ read.reads.piece ≡ whole_lines lines ++ held_of new
+  bytes_are =
+      append_assoc (whole_lines so_far.lines) (held_of old) read.reads.piece
+      ∙ ap (λ bytes. whole_lines so_far.lines ++ bytes) read.reads.deals.kept
+      ∙ sym (append_assoc (whole_lines so_far.lines) (whole_lines read.reads.lines) (held_of new))
+      ∙ ap (λ bytes. bytes ++ held_of new) (sym both_lines)
+
+  gave : Gave before.left (whole_lines lines ++ held_of new) after.left
+  gave = subst (λ bytes. Gave before.left bytes after.left) bytes_are
+      (Gave-append before.left mid.left after.left (whole_lines so_far.lines ++ held_of old) read.reads.piece so_far.given.gave read.reads.gave)
+
+  pub all_given : HasGivenLines before after lines (held_of new)
+  all_given = record { unbroken = All-append IsPlain so_far.lines read.reads.lines so_far.given.unbroken read.reads.deals.unbroken; gave = gave }
+
+  all_counted : (place_of new).lines ≡ length lines
+  all_counted =
+      let some = so_far.count in
+      let more = read.reads.deals.count in
+      let both = length-append so_far.lines read.reads.lines in
+      omega (arith, some, more, both)
+
+  with_both : (rest : StreamSaid) → with_txs txs (with_txs latest rest) ≡ with_txs (txs ++ latest) rest
+  with_both rest = ap (λ ts. let said : StreamSaid = record { txs = ts; offs = rest.offs; stop = rest.stop } in said) (sym (append_assoc txs latest rest.txs))
+
+  reach_is : (at : Stage) → new.stage ≡ at → read.reads.far ≡ reach_at at new.lines.is_whole
+  reach_is at is = read.reads.reached going ∙ ap (λ s. reach_at s new.lines.is_whole) is
+
+  say : new.stage ≡ stage.Reading → (more : List ℕ) (failed : Bool) → stream_said typed false 0 (whole_lines lines ++ more) failed ≡ with_txs (txs ++ latest) (said_from typed false (place_of new) (lines_of more) failed)
+  say is more failed =
+      ap (λ bytes. stream_said typed false 0 (bytes ++ more) failed) both_lines
+      ∙ ap (λ bytes. stream_said typed false 0 bytes failed) (append_assoc (whole_lines so_far.lines) (whole_lines read.reads.lines) more)
+      ∙ so_far.say (whole_lines read.reads.lines ++ more) failed
+      ∙ ap (λ reads. with_txs txs (said_from typed reads (place_of old) (lines_of (whole_lines read.reads.lines ++ more)) failed)) (sym controls)
+      ∙ ap (with_txs txs) (read.reads.deals.say is more failed)
+      ∙ ap (λ reads. with_txs txs (with_txs latest (said_from typed reads (place_of new) (lines_of more) failed))) (read.controls ∙ controls)
+      ∙ with_both (said_from typed false (place_of new) (lines_of more) failed)
 
   -- reading goes on
-  pub reads_on : new.stage ≡ stage.Reading → IsReading typed before after new (txs ++ part)
+  pub reads_on : new.stage ≡ stage.Reading → IsReading typed before after new (txs ++ latest)
   reads_on is = record {
-    bytes = so_far.bytes ++ reads.piece;
-    gave = gave;
-    faults = reads.counted ∙ ap (λ far. faults_at far mid.faults) (far_open is) ∙ so_far.faults;
-    said = λ more failed. says more failed (subst (λ far. MayFollow far more failed) (sym (far_open is)) tt);
+    lines = lines;
+    given = all_given;
+    count = all_counted;
+    within = read.within;
+    say = say is;
+    no_fault = read.reads.counted ∙ ap (λ far. faults_at far mid.faults) (reach_is stage.Reading is) ∙ so_far.no_fault;
   }
 
+  said_then : (more : List ℕ) (failed : Bool) → MayFollow read.reads.far more failed → stream_said typed false 0 ((whole_lines lines ++ held_of new) ++ more) failed ≡ with_txs (txs ++ latest) (given_yet typed new more failed)
+  said_then more failed follows =
+      ap (λ bytes. stream_said typed false 0 (bytes ++ more) failed) (sym bytes_are)
+      ∙ ap (λ bytes. stream_said typed false 0 bytes failed) (append_assoc (whole_lines so_far.lines ++ held_of old) read.reads.piece more ∙ append_assoc (whole_lines so_far.lines) (held_of old) (read.reads.piece ++ more))
+      ∙ so_far.say (held_of old ++ (read.reads.piece ++ more)) failed
+      ∙ ap (λ reads. with_txs txs (said_from typed reads (place_of old) (lines_of (held_of old ++ (read.reads.piece ++ more))) failed)) (sym controls)
+      ∙ ap (λ at. with_txs txs (given_at at typed old (read.reads.piece ++ more) failed)) (sym going)
+      ∙ ap (with_txs txs) (read.reads.said more failed follows)
+      ∙ with_both (given_yet typed new more failed)
+
   -- reading has ended
-  pub reads_to : (stop : Option Stop) → new.stage ≡ stage.Ended stop → IsStream typed before after (all_said (txs ++ part) stop)
+  pub reads_to : (stop : Option Stop) → new.stage ≡ stage.Ended stop → IsStream typed before after (just (txs ++ latest) stop)
   reads_to stop is =
-      let far : reads.far ≡ reach_at (stage.Ended stop) new.lines.is_whole = reads.reached going ∙ ap (λ at. reach_at at new.lines.is_whole) is in
-      is_stream typed before after (so_far.bytes ++ reads.piece) (txs ++ part) stop gave reads.far reads.end (reads.counted ∙ ap (faults_at reads.far) so_far.faults)
-      (λ failed. fault_of_failed stop new.lines.is_whole (sym far ∙ failed))
-      (λ fault. far ∙ failed_of_fault stop new.lines.is_whole fault)
-      (λ more failed follows. says more failed follows
-      ∙ ap (λ at. with_txs (txs ++ part) (given_at at typed new more failed)) is
-      ∙ ap (λ ts. all_said ts stop) (append-nil (txs ++ part)))
+      is_stream typed before after (whole_lines lines ++ held_of new) (txs ++ latest) stop gave read.reads.far read.reads.end (read.reads.counted ∙ ap (faults_at read.reads.far) so_far.no_fault)
+      (λ failed. fault_of_failed stop new.lines.is_whole (sym (reach_is (stage.Ended stop) is) ∙ failed))
+      (λ fault. reach_is (stage.Ended stop) is ∙ failed_of_fault stop new.lines.is_whole fault)
+      (λ more failed follows. said_then more failed follows
+      ∙ ap (λ at. with_txs (txs ++ latest) (given_at at typed new more failed)) is
+      ∙ ap (λ ts. just ts stop) (append-nil (txs ++ latest)))
 
-  -- no more transactions are there than may be
-  pub few_in_all : length (txs ++ part) ≤ MAX_TRANSACTIONS
-  few_in_all =
-      let next = may_follow reads.far in
-      let few = few_said typed ((so_far.bytes ++ reads.piece) ++ next.0) next.1.0 in
-      let same = ap (λ (said : StreamSaid). length said.txs) (says next.0 next.1.0 next.1.1) in
-      let both = length-append (txs ++ part) (given_yet typed new next.0 next.1.0).txs in
-      omega (arith, few, same, both)
+  pub still_reading : end.ended ≡ false → new.stage ≡ stage.Reading
+  still_reading is = (read.part.full is refl).1
 
-  module _ (most count : ℕ) (ended : Bool) (stop : Option Stop) (is_part : IsPart most count ended stop off new.stage) where
-    pub still_reading : ended ≡ false → new.stage ≡ stage.Reading
-    still_reading is = (is_part.full is no_off).1
+  pub is_full : end.ended ≡ false → length latest ≡ MAX_ROUND
+  is_full is = (read.part.full is refl).0
 
-    pub is_full : ended ≡ false → count ≡ most
-    is_full is = (is_part.full is no_off).0
+  pub goes_on : end.ended ≡ false → IsReading typed before after new (txs ++ latest)
+  goes_on is = reads_on (still_reading is)
 
-    pub has_ended : ended ≡ true → IsStream typed before after (all_said (txs ++ part) stop)
-    has_ended is = reads_to stop (is_part.at_end is)
+  pub has_ended : end.ended ≡ true → IsStream typed before after (just (txs ++ latest) end.stop)
+  has_ended is = reads_to end.stop (read.part.at_end is)
 
-    lost_by : (test : Bool) → ended ≡ test → IsLost typed before after
-    lost_by true is = inr (all_said (txs ++ part) stop, has_ended is)
-    lost_by false is = inl (reads_on (still_reading is)).faults
+  read_by : (test : Bool) → end.ended ≡ test → IsRead typed before after txs latest lines (held_of new)
+  unfolding goes_on reads_on
+  read_by true is = round.has_ended end.stop (has_ended is) all_given
+      (up_to end.stop lines (place_of new).lines all_counted (subst (λ at. IsUpToStop at (place_of new).lines) (read.part.at_end is) (read.reads.deals.up_to_stop going)))
+  read_by false is = round.goes_on (rounds_read typed before after new (txs ++ latest) (goes_on is)) (is_full is)
+      (ends_behind so_far.lines read.reads.lines (read.reads.last (ap not is) (still_reading is)))
 
-    -- memory ran out behind a part
-    pub lost : IsLost typed before after
-    lost = lost_by ended refl
+  -- the round was read, and no more
+  pub is_read : IsRead typed before after txs latest lines (held_of new)
+  is_read = read_by end.ended refl

@@ -1,12 +1,14 @@
 -- How far what came of a command was written, and the status that tells it.
-use Rattle.std.specs.Prelude.{◌≡◌, ℕ, List, Result, Ok, Err}
+use Rattle.std.specs.Prelude.{◌≡◌, ℕ, List, Option, Result, Ok, Err}
 use Rattle.ecf_edge.specs.Count.{counted_up}
 use Rattle.ecf_edge.specs.Sink.{Grew, GrewByPrefix}
 use Rattle.ecf_edge.specs.declared.sink.WriteFault.{WriteFault}
 use Rattle.ecf_edge.specs.declared.sink.WriteFault.TheVariants as write
+use Rattle.ecf_lang.specs.declared.receipt.Stop.{Stop}
 use Rattle.ecf_host.specs.declared.failure.Failure.{Failure}
 use Rattle.ecf_host.specs.declared.failure.Failure.TheVariants.{Refused, NoMemory}
 use Rattle.ecf_host.specs.declared.failure.Report.{Report}
+use Rattle.ecf_host.specs.Due.{status_of_stop}
 use Rattle.ecf_host.specs.Refusals.{status_of, note_of}
 use Rattle.ecf_host.specs.World.{SinkState}
 
@@ -15,6 +17,12 @@ abbrev pub status_after : ℕ → Result (Unit {0}) WriteFault → ℕ
 status_after due (Ok done) = due
 status_after due (Err write.Failed) = 5
 status_after due (Err write.NoMemory) = 6
+
+-- the status of a run: by the stop of its stream where the journal was written
+abbrev pub status_of_run : Result (Option Stop) WriteFault → ℕ
+status_of_run (Ok stop) = status_of_stop stop
+status_of_run (Err write.Failed) = 5
+status_of_run (Err write.NoMemory) = 6
 
 -- A text was put on a sink: whole, with the status that it comes with; or a first part of it, since a write failed, or
 -- since there was no memory.

@@ -7,6 +7,8 @@ pub mod Stream
 pub mod Serial
 pub mod Answers
 pub mod Due
+pub mod Rounds
+pub mod Run
 pub mod Served
 pub mod Failures
 pub mod Delivery

@@ -1,10 +1,13 @@
 -- What each status says: which answer was due, and how far it was written.
-use Rattle.std.specs.Prelude.{◌≡◌, ◌⊎◌, ℕ, ◌≤◌, List, [], Option, Some, None}
+use Rattle.std.specs.Prelude.{◌≡◌, ◌⊎◌, ℕ, ◌≤◌, List, [], Option, Some, None, Ok}
 use Rattle.ecf_edge.specs.Count.{Rose, counted_up}
 use Rattle.ecf_edge.specs.Sink.{Grew, GrewByPrefix}
 use Rattle.ecf_edge.specs.Source.{IsAtEnd}
+use Rattle.ecf_lang.specs.declared.typed.Typed.{Typed}
 use Rattle.ecf_host.specs.Answers.{Answer}
+use Rattle.ecf_host.specs.Contract.{fetched, contract}
 use Rattle.ecf_host.specs.Due.{IsDue, IsUncounted, IsSmooth}
+use Rattle.ecf_host.specs.Rounds.{IsCut, IsBegunOf}
 use Rattle.ecf_host.specs.Words.{Command}
 use Rattle.ecf_host.specs.World.{Inputs, SinkState, World}
 
@@ -51,12 +54,38 @@ pub record IsFailed (sink sink' other other' : SinkState) (text elsewhere : List
   pub nothing_due : elsewhere ≡ []
   pub other_stands : other' ≡ other
 
--- status 5: a write of an answer that is due failed, on out or on note
-pub record IsWriteFault (command : Option Command) (before after : World) : Type 0 where
+-- a write of the note that is due failed
+pub record IsNoteCut (command : Option Command) (before after : World) : Type 0 where
+  pub answer : Answer
+  pub due : IsDue command before.inputs after.inputs answer
+  pub failed : IsFailed before.note after.note before.out after.out answer.note answer.out
+
+-- a write of the text that is due failed
+pub record IsTextCut (command : Option Command) (before after : World) : Type 0 where
   pub answer : Answer
   pub due : IsDue command before.inputs after.inputs answer
   pub failed : IsFailed before.out after.out before.note after.note answer.out answer.note
-      ⊎ IsFailed before.note after.note before.out after.out answer.note answer.out
+
+-- the contract in a file was fetched and accepted, and nothing else was fetched
+pub record IsAccepted (file : List ℕ) (before after : Inputs) (typed : Typed) : Type 0 where
+  pub text : List ℕ
+  pub fetch : fetched before.shelf after.shelf file (Ok text)
+  pub is : contract text (Ok typed)
+  pub shelf : after.shelf ≡ before.shelf
+
+-- a write of the journal failed: among the rounds, or in its head or its tail
+pub record IsJournalCut (file : List ℕ) (before after : World) : Type 0 where
+  pub typed : Typed
+  pub accepted : IsAccepted file before.inputs after.inputs typed
+  pub cut : IsCut typed before.inputs.source after.inputs.source before.out.held after.out.held
+  pub counted : after.out.faults ≡ counted_up before.out.faults
+  pub note : after.note ≡ before.note
+
+-- status 5: a write failed, on out or on note, behind a first part of what was to be written
+abbrev pub IsWriteFault : Option Command → World → World → Type 0
+IsWriteFault (Some (Command.Run file)) before after = IsNoteCut (Some (Command.Run file)) before after ⊎ IsJournalCut file before after
+IsWriteFault (Some (Command.Show file)) before after = IsNoteCut (Some (Command.Show file)) before after ⊎ IsTextCut (Some (Command.Show file)) before after
+IsWriteFault None before after = IsNoteCut None before after
 
 -- nothing was written, and nothing that was fetched or read counted
 pub record IsSilent (before after : World) : Type 0 where
@@ -70,10 +99,22 @@ pub record IsDueBegun (command : Option Command) (before after : World) : Type 0
   pub due : IsDue command before.inputs after.inputs answer
   pub begun : IsBegun before after answer
 
--- status 6: no write failed, and an answer that is due was begun, or nothing was told
+-- the journal of whole rounds was begun, behind which more may have been read
+pub record IsJournalBegun (file : List ℕ) (before after : World) : Type 0 where
+  pub typed : Typed
+  pub accepted : IsAccepted file before.inputs after.inputs typed
+  pub begun : IsBegunOf typed before.inputs.source after.inputs.source before.out.held after.out.held
+  pub note : after.note ≡ before.note
+
+-- memory ran out among the rounds, of which `run` alone has some
+abbrev pub IsAmongRounds : Option Command → World → World → Type 0
+IsAmongRounds (Some (Command.Run file)) before after = IsJournalBegun file before after
+IsAmongRounds other before after = ⊥
+
+-- status 6: no write failed, and an answer that is due was begun, or the journal of some rounds, or nothing was told
 pub record IsOutOfMemory (command : Option Command) (before after : World) : Type 0 where
   pub no_write_failed : NoWriteFailed before after
-  pub written : IsDueBegun command before after ⊎ IsSilent before after
+  pub written : IsDueBegun command before after ⊎ IsAmongRounds command before after ⊎ IsSilent before after
 
 -- shelf and source tell what they have, and neither a fetch nor a read nor a write failed
 pub record IsUndisturbed (before after : World) : Type 0 where

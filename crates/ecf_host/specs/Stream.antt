@@ -1,6 +1,5 @@
 -- The stage of a stream: it is read to its end or to the first stop.
-use Rattle.std.specs.Prelude.{◌≡◌, ◌≢◌, ◌⊎◌, ℕ, true, false, List, [], length, map, Option, Some, None, IfSome, Ok, Err}
-use Rattle.std.specs.Arc.{arc_value}
+use Rattle.std.specs.Prelude.{◌≡◌, ◌≢◌, ℕ, true, false, List, length, Option, Some, None, IfSome, Ok, Err}
 use Rattle.std.specs.Option.{IsSomeAnd}
 use Rattle.ecf_lang.specs.declared.receipt.Stop.{Stop}
 use Rattle.ecf_lang.specs.declared.receipt.StopCause.TheVariants.{Long, Bytes, Read}
@@ -8,7 +7,6 @@ use Rattle.ecf_lang.specs.declared.typed.Typed.{Typed}
 use Rattle.ecf_edge.specs.Count.{counted_up}
 use Rattle.ecf_edge.specs.Source.{Gave, GaveSome, IsAtEnd}
 use Rattle.ecf_lines.specs.Stream.{StreamSaid, lines_of, stream_said}
-use Rattle.ecf_host.specs.declared.stream.Stream.{Stream}
 use Rattle.ecf_host.specs.Stages.{Stage}
 use Rattle.ecf_host.specs.World.{SourceState}
 
@@ -48,11 +46,3 @@ pub data IsStream (typed : Typed) (before after : SourceState) (said : StreamSai
 abbrev pub streamed : Typed → SourceState → SourceState → Stage StreamSaid
 streamed typed before after (Ok said) = IsStream typed before after said
 streamed typed before after (Err refusal) = ⊥
-
--- what was read, as plain transactions
-abbrev pub said_of : Stream → StreamSaid
-said_of stream = record { txs = map arc_value stream.txs.items; offs = []; stop = stream.stop }
-
--- memory ran out while a stream was read: no read failed, or all was read
-abbrev pub IsLost : Typed → SourceState → SourceState → Type 0
-IsLost typed before after = (after.faults ≡ before.faults) ⊎ ((said : StreamSaid) × IsStream typed before after said)

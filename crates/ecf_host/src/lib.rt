@@ -7,9 +7,9 @@ mod failure;
 mod journal;
 mod laws;
 mod refusal;
+mod rounds;
 mod run;
 mod show;
-mod stream;
 mod top;
 mod words;
 

@@ -7,12 +7,14 @@ ghost use Rattle.ecf_host.specs.World.{world};
 
 use crate::deliver::deliver;
 use crate::failure::Failure;
-use crate::laws::one_due;
+use crate::laws::{has_journal, one_due};
 use crate::refusal::Refusal;
-use crate::run::run;
+use crate::rounds::run_rounds;
+use crate::run::{accept, status_of_run};
 use crate::show::show;
 use crate::words::file_behind;
 use ecf_edge::{Shelf, Sink, Source};
+use ecf_verdicts::along_places;
 use std::alloc::Global;
 
 /// Runs a command that needs no stream and no thread. `show FILE` fetches the contract in FILE from the shelf and writes its
@@ -40,8 +42,9 @@ pub fn tool<F: Shelf, S: Source, K: Sink, N: Sink>(
 }
 
 /// Runs the command that the words are. `run FILE` fetches the contract in FILE from the shelf, reads the stream from
-/// the source, and writes the journal on `out`; where something is refused it writes one line on `note`. The statuses and
-/// notes are those of docs/formats.md. All other words go to `tool`. The runtime is for threads, which come later.
+/// the source, and writes the journal on `out`, a round of transactions at a time; where something is refused it writes one
+/// line on `note`. The statuses and notes are those of docs/formats.md. All other words go to `tool`. The runtime is for
+/// threads, which come later.
 pub fn host<R, F: Shelf, S: Source, K: Sink, N: Sink>(
     _rt: &R,
     alloc: Global,
@@ -56,11 +59,16 @@ pub fn host<R, F: Shelf, S: Source, K: Sink, N: Sink>(
         IsServed (command_of (map string_bytes words.now)) before after result }
 {
     one_due();
+    has_journal();
+    along_places();
     match file_behind("run", words) {
-        Some(file) => {
-            let outcome = run(alloc, file, shelf, input);
-            deliver(alloc, outcome, out, note)
-        }
+        Some(file) => match accept(alloc, file, shelf) {
+            Ok(typed) => {
+                let ran = run_rounds(alloc, typed, input, out);
+                status_of_run(ran)
+            }
+            Err(failure) => deliver(alloc, Err(failure), out, note),
+        },
         None => tool(alloc, words, shelf, input, out, note),
     }
 }

@@ -25,7 +25,7 @@ pub(crate) enum Fails {
 }
 
 /// The numbers of the fetches, reads, writes and writes of the note that fail; 0 for none.
-fn numbers(fails: Fails) -> (u64, u64, u64, u64) {
+pub(crate) fn numbers(fails: Fails) -> (u64, u64, u64, u64) {
     match fails {
         Fails::Never => (0, 0, 0, 0),
         Fails::Fetch(number) => (number, 0, 0, 0),
@@ -64,7 +64,11 @@ pub(crate) fn counted(step: usize, fails: Fails) -> Case {
     }
 }
 
-fn words_of(alloc: Global, command: &str, file: &str) -> Result<Vec<String>, AllocError> {
+pub(crate) fn words_of(
+    alloc: Global,
+    command: &str,
+    file: &str,
+) -> Result<Vec<String>, AllocError> {
     let command = String::from_str(alloc, command)?;
     let file = String::from_str(alloc, file)?;
     Ok(vec![in alloc; command, file]?)
@@ -77,13 +81,17 @@ fn padded(alloc: Global, text: &str, blanks: usize) -> Result<Vec<u8>, AllocErro
     Ok(bytes)
 }
 
-fn shelf_of(alloc: Global, contract: Vec<u8>, fails: u64) -> Result<MemShelf, AllocError> {
+pub(crate) fn shelf_of(
+    alloc: Global,
+    contract: Vec<u8>,
+    fails: u64,
+) -> Result<MemShelf, AllocError> {
     let name = String::from_str(alloc, "c.ecf")?;
     let files = vec![in alloc; (name, contract)]?;
     Ok(MemShelf::new(files, vec![in alloc; fails]?))
 }
 
-fn source_of(
+pub(crate) fn source_of(
     alloc: Global,
     stream: &str,
     step: usize,
@@ -94,12 +102,12 @@ fn source_of(
     Ok(MemSource::new(bytes, at_least_one(step), fails))
 }
 
-fn sink_of(alloc: Global, step: usize, fails: u64) -> Result<MemSink, AllocError> {
+pub(crate) fn sink_of(alloc: Global, step: usize, fails: u64) -> Result<MemSink, AllocError> {
     let fails = vec![in alloc; fails]?;
     Ok(MemSink::new(alloc, at_least_one(step), fails))
 }
 
-fn status_of<F: Shelf, S: Source, K: Sink, N: Sink>(
+pub(crate) fn status_of<F: Shelf, S: Source, K: Sink, N: Sink>(
     rt: &HostRuntime,
     words: &[String],
     shelf: &mut F,

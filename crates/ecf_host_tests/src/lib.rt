@@ -17,6 +17,8 @@ mod journals;
 #[cfg(test)]
 mod refusals;
 #[cfg(test)]
+mod rounds;
+#[cfg(test)]
 mod shelves;
 #[cfg(test)]
 mod shows;
