@@ -1,0 +1,5 @@
+-- What stands between the words of a line.
+use Rattle.std.specs.Prelude.{ℕ, ◌==◌, Bool}
+
+abbrev pub is_space : ℕ → Bool
+is_space byte = byte == 32

@@ -1,0 +1,4 @@
+pub mod Names
+pub mod Lines
+pub mod Counts
+pub mod Laws
