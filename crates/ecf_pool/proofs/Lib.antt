@@ -1,0 +1,5 @@
+pub mod TurnLaws
+pub mod WorkLaws
+pub mod ShareLaws
+pub mod Crosses
+pub mod RoundLaws

@@ -1,0 +1,9 @@
+pub mod Works
+pub mod Turns
+pub mod TurnDesks
+pub mod Places
+pub mod Ends
+pub mod Members
+pub mod AfterRounds
+pub mod Empty
+pub mod Counts
