@@ -1,0 +1,4 @@
+pub mod LeadLaws
+pub mod PlainLaws
+pub mod StatementLaws
+pub mod ValueLaws

@@ -1,0 +1,4 @@
+pub mod Leads
+pub mod Plain
+pub mod PlainForms
+pub mod Stops
