@@ -1,10 +1,11 @@
 -- Rows given back and placed one after the other: what there is to do doesn't change.
-use Rattle.std.proofs.Common.{◌≡◌, ℕ, suc, zero, ◌+◌, ◌<◌, ◌≤◌, false, List, [], ◌∷◌, ◌++◌, length, take, drop, map, refl, sym, ap, ◌∙◌, subst, arith}
+use Rattle.std.proofs.Common.{◌≡◌, ℕ, suc, zero, ◌+◌, ◌<◌, ◌≤◌, false, List, [], ◌∷◌, ◌++◌, length, take, drop, true, map, refl, sym, ap, ◌∙◌, subst, arith}
 use Rattle.std.specs.Prelude.{slice_index_or}
 use Rattle.std.proofs.lemmas.List.{append_assoc, append-nil, length-set, length-append, drop-set-lt, take_at}
 use Rattle.ecf_book.specs.Answering.{WasGiven, LeftOff}
 use Rattle.ecf_book.specs.Recorded.{Recorded, opening_of, state_of, with_entries}
-use Rattle.ecf_book.specs.Steps.{MayCome, entry, freeing_row, finishing_row}
+use Rattle.ecf_book.specs.Steps.{MayCome, entry, freeing_row, finishing_row, standing}
+use Rattle.ecf_rows.specs.Standing.{AreDoneBefore}
 use Rattle.ecf_book.proofs.FindLaws.{false_not_true}
 use Rattle.ecf_book.proofs.HistoryLaws.{more_twice, state_more, state_one, legal_rest}
 use Rattle.ecf_core.specs.declared.book.LogEntry.{LogEntry}
@@ -34,6 +35,15 @@ drop_nil (suc n) = refl
 one_more : (r : ℕ) → suc r ≡ r + 1
 one_more r = omega arith
 
+no_more : (r : ℕ) → r + 0 ≡ r
+no_more r = omega arith
+
+from_none : (n : ℕ) → n ≡ 0 + n
+from_none n = omega arith
+
+next_place : (at n : ℕ) → at + suc n ≡ suc at + n
+next_place at n = omega arith
+
 -- the next row's entry, and the rest
 freeing_next : (rows : List RowState) (r at : ℕ) → freeing_entries at (drop r rows) ≡ freeing_row at (slice_index_or rows r (row.Free 0)) ++ freeing_entries (suc at) (drop (suc r) rows)
 unfolding freeing_entries
@@ -61,8 +71,24 @@ one_at_most r (row.Free c) = omega arith
 one_at_most r (row.Claimed t c s) = omega arith
 one_at_most r (row.Done n) = omega arith
 
-pub reclaimed_first : (b : Recorded) → IsReclaimed b b 0 0
-reclaimed_first b = record { done = []; added = ap (λ l. record { setup = b.setup; entries = l }) (sym (append-nil b.entries)); left = refl; counted = refl; few = omega arith; as_many = refl }
+-- Done rows are passed over
+none_freed : (rows : List RowState) (n at : ℕ) → ((r : ℕ) → r < n → is_done (slice_index_or rows r (row.Free 0)) ≡ true) → freeing_entries (at + n) (drop n rows) ≡ freeing_entries at rows
+unfolding freeing_entries
+none_freed rows zero at done = ap (λ k. freeing_entries k rows) (no_more at)
+none_freed [] (suc n) at done = refl
+none_freed (row.Free c ∷ rows) (suc n) at done = false_not_true refl (done 0 (omega arith))
+none_freed (row.Claimed t c s ∷ rows) (suc n) at done = false_not_true refl (done 0 (omega arith))
+none_freed (row.Done m ∷ rows) (suc n) at done = ap (λ k. freeing_entries k (drop n rows)) (next_place at n) ∙ none_freed rows n (suc at) (λ r l. done (suc r) (omega (arith, l)))
+
+pub reclaimed_first : (b : Recorded) (n : ℕ) → AreDoneBefore (standing b) n → IsReclaimed b b n 0
+reclaimed_first b n done = record {
+  done = [];
+  added = ap (λ l. record { setup = b.setup; entries = l }) (sym (append-nil b.entries));
+  left = ap (λ k. freeing_entries k (drop n (state_of b).rows)) (from_none n) ∙ none_freed (state_of b).rows n 0 done;
+  counted = refl;
+  few = omega arith;
+  as_many = refl;
+}
 
 pub reclaimed_next : (start now later : Recorded) (r count more : ℕ) → IsReclaimed start now r count → later ≡ with_entries now (freeing_row r (row_at (state_of now) r))
     → more ≡ length (freeing_row r (row_at (state_of now) r)) → IsReclaimed start later (r + 1) (count + more)
@@ -135,8 +161,21 @@ placed_row b r (row.Free c) = (let p = placed_one b r in record { behind = p.0; 
 placed_row b r (row.Claimed t c s) = (let p = placed_one b r in record { behind = p.0; many = p.1; number = p.2 })
 placed_row b r (row.Done n) = (let now = state_more b [] in record { behind = ap (λ (z : Book). drop (suc r) z.rows) now; many = ap (λ (z : Book). length z.rows) now; number = ap (λ (z : Book). next_seq z) now })
 
-pub placed_first : (b : Recorded) → IsPlacedTo b b 0
-placed_first b = record { done = []; added = ap (λ l. record { setup = b.setup; entries = l }) (sym (append-nil b.entries)); left = refl; as_many = refl }
+none_placed : (rows : List RowState) (n at seq : ℕ) → ((r : ℕ) → r < n → is_done (slice_index_or rows r (row.Free 0)) ≡ true) → finishing_entries (at + n) seq (drop n rows) ≡ finishing_entries at seq rows
+unfolding finishing_entries
+none_placed rows zero at seq done = ap (λ k. finishing_entries k seq rows) (no_more at)
+none_placed [] (suc n) at seq done = refl
+none_placed (row.Free c ∷ rows) (suc n) at seq done = false_not_true refl (done 0 (omega arith))
+none_placed (row.Claimed t c s ∷ rows) (suc n) at seq done = false_not_true refl (done 0 (omega arith))
+none_placed (row.Done m ∷ rows) (suc n) at seq done = ap (λ k. finishing_entries k seq (drop n rows)) (next_place at n) ∙ none_placed rows n (suc at) seq (λ r l. done (suc r) (omega (arith, l)))
+
+pub placed_first : (b : Recorded) (n : ℕ) → AreDoneBefore (standing b) n → IsPlacedTo b b n
+placed_first b n done = record {
+  done = [];
+  added = ap (λ l. record { setup = b.setup; entries = l }) (sym (append-nil b.entries));
+  left = ap (λ k. finishing_entries k (next_seq (state_of b)) (drop n (state_of b).rows)) (from_none n) ∙ none_placed (state_of b).rows n 0 (next_seq (state_of b)) done;
+  as_many = refl;
+}
 
 -- what is left, by the next row
 left_next : (start now : Recorded) (r : ℕ) (h : IsPlacedTo start now r) → r < length (state_of start).rows → let x = row_at (state_of now) r in let seq = next_seq (state_of now) in

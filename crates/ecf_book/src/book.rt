@@ -9,7 +9,7 @@ ghost use Rattle.ecf_core.specs.Book.{next_seq, row_at, stales_under};
 ghost use Rattle.ecf_heap.specs.Numbered.{IsWithinLimits};
 ghost use Rattle.ecf_lang.specs.Fits.{Fits};
 ghost use Rattle.ecf_lang.specs.declared.limits.TheConstants.{MAX_TRANSACTIONS};
-ghost use Rattle.ecf_rows.specs.Standing.{may_place};
+ghost use Rattle.ecf_rows.specs.Standing.{AreDoneBefore, may_place};
 
 use crate::setup::Setup;
 use ecf_core::book::{LogEntry, RowState};
@@ -123,6 +123,14 @@ impl Book {
         ensures { result ≡ row_at (state_of self.now) row }
     {
         self.rows.state(row)
+    }
+
+    /// How many rows there were when the last ones came. These are Done, and no call looks at them one by one again.
+    pub fn settled(&self) -> u32
+        ensures done { AreDoneBefore (standing self.now) result }
+        ensures within { result ≤ length self.now.setup.txs }
+    {
+        self.rows.settled()
     }
 
     /// The transactions, in the order of their rows.

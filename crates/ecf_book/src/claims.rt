@@ -95,9 +95,9 @@ impl Book {
     pub fn reclaim(&mut self) -> u32
         ensures { WasGiven (reclaim (state_of self.old)) (reply.Reclaimed result) self.old self.new }
     {
-        let rows = self.rows();
+        let (settled, rows) = (self.settled(), self.rows());
         let mut count = 0;
-        for row in 0..rows {
+        for row in settled..rows {
             count += self.reclaim_row(row);
         }
         count

@@ -41,8 +41,8 @@ impl Book {
         ensures ok { OnOk result (let s = state_of self.old in self.new ≡ with_entries self.old (finishing_entries 0 (next_seq s) s.rows)) }
         ensures err { OnErr result (let s = state_of self.old in LeftOff [] (finishing_entries 0 (next_seq s) s.rows) self.old self.new) }
     {
-        let rows = self.rows();
-        for row in 0..rows {
+        let (settled, rows) = (self.settled(), self.rows());
+        for row in settled..rows {
             self.place_row(alloc, row)?;
         }
         Ok(())

@@ -154,7 +154,7 @@ fn settle(
 fn all_done(book: &Book) -> bool
     ensures { IsTrue result → AllDone book.now }
 {
-    for row in 0..book.rows() {
+    for row in book.settled()..book.rows() {
         if !matches!(book.row(row), RowState::Done { .. }) {
             return false;
         }

@@ -36,10 +36,10 @@ shifted list more from number place before e first = record {
 none_counted : (n : ℕ) → count_by is_claimed (replicate n (row.Free 0)) ≡ 0
 none_counted n = sum_by-replicate one_if_claimed n (row.Free 0) ∙ omega arith
 
-pub extended_kept : (s : Standing) (more links next words room now : List ℕ) (claimed before : ℕ) → before ≡ length s.states → IsKept s links words claimed → ((r : ℕ) → r < length s.states → Done s r) →
+pub extended_kept : (s : Standing) (more links next words room now : List ℕ) (claimed settled before : ℕ) → before ≡ length s.states → IsKept s links words claimed settled → ((r : ℕ) → r < length s.states → Done s r) →
     before + length more ≤ MAX_TRANSACTIONS → ((k : ℕ) → is_member room k ≡ is_member words k) → before + length more ≤ 64 * length room →
-    HasEntered more before (length more) room now → AreLinks more before 0 next → IsKept (with_free s more) (links ++ next) now claimed
-extended_kept s more links next words room now claimed before at kept done few same_set wide entered_first linked = record {
+    HasEntered more before (length more) room now → AreLinks more before 0 next → IsKept (with_free s more) (links ++ next) now claimed before
+extended_kept s more links next words room now claimed settled before at kept done few same_set wide entered_first linked = record {
   as_many = length-append s.submitters more ∙ ap (λ n. n + length more) kept.as_many ∙ sym longer;
   few = omega (arith, few, longer, at);
   linked = record {
@@ -63,6 +63,7 @@ extended_kept s more links next words room now claimed before at kept done few s
   };
   counted = kept.counted ∙ (let all : count_by is_claimed (s.states ++ replicate (length more) (row.Free 0)) ≡ count_by is_claimed s.states + count_by is_claimed (replicate (length more) (row.Free 0)) = sum_by-append one_if_claimed s.states (replicate (length more) (row.Free 0)) in
       omega (arith, all, none_counted (length more)));
+  done_before = done_old;
 }
   where
     longer : length (s.states ++ replicate (length more) (row.Free 0)) ≡ length s.states + length more
@@ -143,26 +144,27 @@ free_rows [] = refl
 free_rows (tx ∷ txs) = ap (λ l. row.Free 0 ∷ l) (free_rows txs)
 
 -- the same rows and links in other words
-pub kept_alike : (a a' : List ℕ) (b b' : List RowState) (links links' words : List ℕ) (claimed : ℕ) → a' ≡ a → b' ≡ b → links' ≡ links →
-    IsKept (record { submitters = a; states = b }) links words claimed → IsKept (record { submitters = a'; states = b' }) links' words claimed
-kept_alike a a' b b' links links' words claimed e f g kept =
-    subst (λ (l : List ℕ). IsKept (record { submitters = a'; states = b' }) l words claimed) (sym g)
-    (subst (λ (l : List RowState). IsKept (record { submitters = a'; states = l }) links words claimed) (sym f)
-    (subst (λ (l : List ℕ). IsKept (record { submitters = l; states = b }) links words claimed) (sym e) kept))
+pub kept_alike : (a a' : List ℕ) (b b' : List RowState) (links links' words : List ℕ) (claimed settled : ℕ) → a' ≡ a → b' ≡ b → links' ≡ links →
+    IsKept (record { submitters = a; states = b }) links words claimed settled → IsKept (record { submitters = a'; states = b' }) links' words claimed settled
+kept_alike a a' b b' links links' words claimed settled e f g kept =
+    subst (λ (l : List ℕ). IsKept (record { submitters = a'; states = b' }) l words claimed settled) (sym g)
+    (subst (λ (l : List RowState). IsKept (record { submitters = a'; states = l }) links words claimed settled) (sym f)
+    (subst (λ (l : List ℕ). IsKept (record { submitters = l; states = b }) links words claimed settled) (sym e) kept))
 
 -- a set with more room
-pub kept_wider : (s : Standing) (links words room : List ℕ) (claimed : ℕ) → IsKept s links words claimed → ((k : ℕ) → is_member room k ≡ is_member words k) → length words ≤ length room → IsKept s links room claimed
-kept_wider s links words room claimed kept members wider = record {
+pub kept_wider : (s : Standing) (links words room : List ℕ) (claimed settled : ℕ) → IsKept s links words claimed settled → ((k : ℕ) → is_member room k ≡ is_member words k) → length words ≤ length room → IsKept s links room claimed settled
+kept_wider s links words room claimed settled kept members wider = record {
   as_many = kept.as_many;
   few = kept.few;
   linked = kept.linked;
   entered = record { members = λ r. members r ∙ kept.entered.members r; room = omega (arith, kept.entered.room, wider) };
   turn = kept.turn;
   counted = kept.counted;
+  done_before = kept.done_before;
 }
 
 -- no rows
-pub none_kept : IsKept (record { submitters = []; states = [] }) [] [] 0
+pub none_kept : IsKept (record { submitters = []; states = [] }) [] [] 0 0
 none_kept = record {
   as_many = refl;
   few = omega arith;
@@ -170,6 +172,7 @@ none_kept = record {
   entered = record { members = λ r. member_none r ∙ sym (ap (λ b. b && may_claim (record { submitters = []; states = [] }) r) (le-ltb r 0 (omega arith))); room = omega arith };
   turn = record { done = λ q r l same d. absurd (both_ways false refl d); claimed = λ r c. absurd (both_ways false refl c) };
   counted = refl;
+  done_before = λ q l. absurd (omega (arith, l));
 }
 
 pub standing_alike : (a a' : List ℕ) (b b' : List RowState) → a ≡ a' → b ≡ b' → ◌≡◌ {A = Standing} (record { submitters = a; states = b }) (record { submitters = a'; states = b' })

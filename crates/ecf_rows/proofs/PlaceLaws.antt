@@ -40,10 +40,10 @@ and_none_first : (x y : Bool) → x ≡ false → (x && y) ≡ false
 and_none_first x y e = ap (λ z. z && y) e
 
 -- a row is placed of which all earlier ones of its submitter are Done
-pub placed : (s : Standing) (links words words' : List ℕ) (claimed claimed' r seq : ℕ) → IsKept s links words claimed → r < length s.states → may_place s r ≡ true →
+pub placed : (s : Standing) (links words words' : List ℕ) (claimed claimed' settled r seq : ℕ) → IsKept s links words claimed settled → r < length s.states → may_place s r ≡ true →
     ((k : ℕ) → is_member words' k ≡ ((is_member words k && not (k == r)) || (is_left (slice_set s.states r (row.Done seq)) (slice_index links r) && (k == slice_index links r)))) →
-    length words' ≡ length words → claimed' + one_if_claimed (state_at s r) ≡ claimed → IsKept (with_state s r (row.Done seq)) links words' claimed'
-placed s links words words' claimed claimed' r seq kept inside may members as_many count = record {
+    length words' ≡ length words → claimed' + one_if_claimed (state_at s r) ≡ claimed → IsKept (with_state s r (row.Done seq)) links words' claimed' settled
+placed s links words words' claimed claimed' settled r seq kept inside may members as_many count = record {
   as_many = kept.as_many ∙ sym (length-set s.states r x);
   few = omega (arith, kept.few, same_length);
   linked = record {
@@ -60,6 +60,7 @@ placed s links words words' claimed claimed' r seq kept inside may members as_ma
         next_from (with_state s r x) q (λ p l e. grown p (earlier_done s q (kept.turn.claimed q (ap is_claimed (sym (there s r x q other)) ∙ c)) p l e)));
   };
   counted = counted_anew s r claimed claimed' x inside kept.counted (count ∙ omega arith);
+  done_before = λ q l. grown q (kept.done_before q l);
 }
   where
     x : RowState

@@ -73,11 +73,11 @@ counted_anew s r claimed claimed' x inside e f =
     omega (arith, e, f, change)
 
 -- an open row gets another state in which it is open
-pub moved : (s : Standing) (links words words' : List ℕ) (claimed claimed' r : ℕ) (x : RowState) → IsKept s links words claimed → r < length s.states →
+pub moved : (s : Standing) (links words words' : List ℕ) (claimed claimed' settled r : ℕ) (x : RowState) → IsKept s links words claimed settled → r < length s.states →
     is_done (state_at s r) ≡ false → is_done x ≡ false → (is_claimed x ≡ true → is_next s r ≡ true) →
     ((q : ℕ) → q ≢ r → is_member words' q ≡ is_member words q) → is_member words' r ≡ (has_claim_left x && is_next s r) → length words' ≡ length words →
-    claimed' + one_if_claimed (state_at s r) ≡ claimed + one_if_claimed x → IsKept (with_state s r x) links words' claimed'
-moved s links words words' claimed claimed' r x kept inside was_open stays turn others own as_many count = record {
+    claimed' + one_if_claimed (state_at s r) ≡ claimed + one_if_claimed x → IsKept (with_state s r x) links words' claimed' settled
+moved s links words words' claimed claimed' settled r x kept inside was_open stays turn others own as_many count = record {
   as_many = kept.as_many ∙ sym (length-set s.states r x);
   few = omega (arith, kept.few, length-set s.states r x);
   linked = record {
@@ -93,6 +93,7 @@ moved s links words words' claimed claimed' r x kept inside was_open stays turn 
     ];
   };
   counted = counted_anew s r claimed claimed' x inside kept.counted count;
+  done_before = λ q l. same_done s r x inside same q ∙ kept.done_before q l;
 }
   where
     same : is_done x ≡ is_done (state_at s r)
@@ -126,8 +127,8 @@ and_none true y e = e
 and_none false y e = refl
 
 -- a row that has no claim left, or is Claimed or Done, isn't in the set
-pub not_in : (s : Standing) (links words : List ℕ) (claimed r : ℕ) → IsKept s links words claimed → has_claim_left (state_at s r) ≡ false → is_member words r ≡ false
-not_in s links words claimed r kept e = kept.entered.members r ∙ none_left (nat_lt r (length s.states)) (has_claim_left (state_at s r)) (is_next s r) e
+pub not_in : (s : Standing) (links words : List ℕ) (claimed settled r : ℕ) → IsKept s links words claimed settled → has_claim_left (state_at s r) ≡ false → is_member words r ≡ false
+not_in s links words claimed settled r kept e = kept.entered.members r ∙ none_left (nat_lt r (length s.states)) (has_claim_left (state_at s r)) (is_next s r) e
 
 claimed_none_left : (x : RowState) → is_claimed x ≡ true → has_claim_left x ≡ false
 claimed_none_left (row.Free c) e = absurd (both_ways false refl e)
@@ -135,14 +136,14 @@ claimed_none_left (row.Claimed t c s) e = refl
 claimed_none_left (row.Done n) e = refl
 
 -- a row is claimed
-pub taken : (s : Standing) (links words words' : List ℕ) (claimed r : ℕ) (x : RowState) → IsKept s links words claimed → r < length s.states → may_claim s r ≡ true → is_claimed x ≡ true →
-    ((k : ℕ) → is_member words' k ≡ (is_member words k && not (k == r))) → length words' ≡ length words → IsKept (with_state s r x) links words' (claimed + 1)
-taken s links words words' claimed r x kept inside may is members as_many =
+pub taken : (s : Standing) (links words words' : List ℕ) (claimed settled r : ℕ) (x : RowState) → IsKept s links words claimed settled → r < length s.states → may_claim s r ≡ true → is_claimed x ≡ true →
+    ((k : ℕ) → is_member words' k ≡ (is_member words k && not (k == r))) → length words' ≡ length words → IsKept (with_state s r x) links words' (claimed + 1) settled
+taken s links words words' claimed settled r x kept inside may is members as_many =
     let parts = and_parts (has_claim_left (state_at s r)) (is_next s r) may in
     let was : is_done (state_at s r) ≡ false = left_is_open (state_at s r) parts.0 in
     let free : is_claimed (state_at s r) ≡ false = left_not_claimed (state_at s r) parts.0 in
     let count : claimed + 1 + one_if_claimed (state_at s r) ≡ claimed + one_if_claimed x = ap (λ b. claimed + 1 + cond b 1 0) free ∙ omega arith ∙ ap (λ b. claimed + cond b 1 0) (sym is) in
-    moved s links words words' claimed (claimed + 1) r x kept inside was (claimed_is_open x is) (λ _. parts.1)
+    moved s links words words' claimed (claimed + 1) settled r x kept inside was (claimed_is_open x is) (λ _. parts.1)
     (λ q other. members q ∙ and_all (is_member words q) _ (ap not (ne_eqb q r other)))
     (members r ∙ and_none (is_member words r) _ (ap not (not_self r)) ∙ sym (ap (λ b. b && is_next s r) (claimed_none_left x is)))
     as_many count
@@ -166,27 +167,27 @@ pub absent_not_claimed : (s : Standing) (r : ℕ) → length s.states ≤ r → 
 absent_not_claimed s r past = ap is_claimed (get_or_past s.states r (row.Free 0) past)
 
 -- a row has one stale commit more
-pub stale_kept : (s : Standing) (links words : List ℕ) (claimed r : ℕ) (y : RowState) → state_at s r ≡ y → IsKept s links words claimed → r < length s.states → IsKept (with_state s r (as_stale y)) links words claimed
-stale_kept s links words claimed r (row.Free c) e kept inside = subst (λ t. IsKept t links words claimed) (sym (unmoved s r (row.Free c) (sym e))) kept
-stale_kept s links words claimed r (row.Done n) e kept inside = subst (λ t. IsKept t links words claimed) (sym (unmoved s r (row.Done n) (sym e))) kept
-stale_kept s links words claimed r (row.Claimed t c n) e kept inside =
+pub stale_kept : (s : Standing) (links words : List ℕ) (claimed settled r : ℕ) (y : RowState) → state_at s r ≡ y → IsKept s links words claimed settled → r < length s.states → IsKept (with_state s r (as_stale y)) links words claimed settled
+stale_kept s links words claimed settled r (row.Free c) e kept inside = subst (λ t. IsKept t links words claimed settled) (sym (unmoved s r (row.Free c) (sym e))) kept
+stale_kept s links words claimed settled r (row.Done n) e kept inside = subst (λ t. IsKept t links words claimed settled) (sym (unmoved s r (row.Done n) (sym e))) kept
+stale_kept s links words claimed settled r (row.Claimed t c n) e kept inside =
     let was : is_claimed (state_at s r) ≡ true = ap is_claimed e in
-    moved s links words words claimed claimed r (row.Claimed t c (suc n)) kept inside (claimed_is_open (state_at s r) was) refl (λ _. kept.turn.claimed r was)
+    moved s links words words claimed claimed settled r (row.Claimed t c (suc n)) kept inside (claimed_is_open (state_at s r) was) refl (λ _. kept.turn.claimed r was)
     (λ q other. refl)
-    (not_in s links words claimed r kept (claimed_none_left (state_at s r) was))
+    (not_in s links words claimed settled r kept (claimed_none_left (state_at s r) was))
     refl (ap (λ b. claimed + cond b 1 0) was)
 
 -- a Claimed row is given back
-pub free_kept : (s : Standing) (links words words' : List ℕ) (claimed claimed' r : ℕ) (y : RowState) → state_at s r ≡ y → IsKept s links words claimed → r < length s.states → is_claimed y ≡ true →
+pub free_kept : (s : Standing) (links words words' : List ℕ) (claimed claimed' settled r : ℕ) (y : RowState) → state_at s r ≡ y → IsKept s links words claimed settled → r < length s.states → is_claimed y ≡ true →
     claimed' + one_if_claimed y ≡ claimed →
-    ((k : ℕ) → is_member words' k ≡ (is_member words k || (is_left (slice_set s.states r (as_freed y)) r && (k == r)))) → length words' ≡ length words → IsKept (with_state s r (as_freed y)) links words' claimed'
-free_kept s links words words' claimed claimed' r (row.Free c) e kept inside is less members as_many = absurd (both_ways false refl is)
-free_kept s links words words' claimed claimed' r (row.Done n) e kept inside is less members as_many = absurd (both_ways false refl is)
-free_kept s links words words' claimed claimed' r (row.Claimed t c n) e kept inside is less members as_many =
+    ((k : ℕ) → is_member words' k ≡ (is_member words k || (is_left (slice_set s.states r (as_freed y)) r && (k == r)))) → length words' ≡ length words → IsKept (with_state s r (as_freed y)) links words' claimed' settled
+free_kept s links words words' claimed claimed' settled r (row.Free c) e kept inside is less members as_many = absurd (both_ways false refl is)
+free_kept s links words words' claimed claimed' settled r (row.Done n) e kept inside is less members as_many = absurd (both_ways false refl is)
+free_kept s links words words' claimed claimed' settled r (row.Claimed t c n) e kept inside is less members as_many =
     let was : is_claimed (state_at s r) ≡ true = ap is_claimed e in
-    moved s links words words' claimed claimed' r (row.Free c) kept inside (claimed_is_open (state_at s r) was) refl (λ f. absurd (both_ways false refl f))
+    moved s links words words' claimed claimed' settled r (row.Free c) kept inside (claimed_is_open (state_at s r) was) refl (λ f. absurd (both_ways false refl f))
     (λ q other. members q ∙ or_none (is_member words q) _ (and_none _ _ (ne_eqb q r other)))
-    (members r ∙ ap (λ b. b || (is_left (slice_set s.states r (row.Free c)) r && (r == r))) (not_in s links words claimed r kept (claimed_none_left (state_at s r) was))
+    (members r ∙ ap (λ b. b || (is_left (slice_set s.states r (row.Free c)) r && (r == r))) (not_in s links words claimed settled r kept (claimed_none_left (state_at s r) was))
     ∙ and_all _ _ (not_self r) ∙ left ∙ sym (and_all (has_claim_left (row.Free c)) _ (kept.turn.claimed r was)))
     as_many (ap (λ b. claimed' + cond b 1 0) was ∙ omega (arith, less))
   where

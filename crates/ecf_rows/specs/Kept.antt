@@ -5,7 +5,7 @@ use Rattle.ecf_lang.specs.declared.limits.TheConstants.{MAX_TRANSACTIONS}
 use Rattle.ecf_core.specs.declared.book.RowState.{RowState}
 use Rattle.ecf_core.specs.declared.book.RowState.TheVariants as row
 use Rattle.ecf_core.specs.Book.{has_claim_left, is_claimed, is_done}
-use Rattle.ecf_rows.specs.Standing.{Standing, state_at, is_next, may_claim}
+use Rattle.ecf_rows.specs.Standing.{AreDoneBefore, Standing, state_at, is_next, may_claim}
 use Rattle.ecf_rows.specs.Links.{IsFirstFrom}
 use Rattle.ecf_rows.specs.RowSet.{is_member}
 
@@ -34,11 +34,12 @@ pub record InTurn (s : Standing) : Type 0 where
       is_done (state_at s r) ≡ true → is_done (state_at s q) ≡ true
   pub claimed : (r : ℕ) → is_claimed (state_at s r) ≡ true → is_next s r ≡ true
 
--- all that is kept
-pub record IsKept (s : Standing) (links words : List ℕ) (claimed : ℕ) : Type 0 where
+-- all that is kept: all rows before the settled one are Done
+pub record IsKept (s : Standing) (links words : List ℕ) (claimed settled : ℕ) : Type 0 where
   pub as_many : length s.submitters ≡ length s.states
   pub few : length s.states ≤ MAX_TRANSACTIONS
   pub linked : HasLinks s links
   pub entered : HasClaimable s words
   pub turn : InTurn s
   pub counted : claimed ≡ count_by is_claimed s.states
+  pub done_before : AreDoneBefore s settled

@@ -28,6 +28,8 @@ pub struct Rows {
     links: Vec<u32>,
     claimable: RowSet,
     claimed: usize,
+    /// All rows before this one are Done: those that there were when the last ones came.
+    settled: usize,
 }
 
 impl Model for Rows {
@@ -38,7 +40,7 @@ impl Model for Rows {
 
     ghost view = { λ r. record { submitters = r.submitters.items; states = r.states.items } };
 
-    ghost invariant = { λ r. IsKept (record { submitters = r.submitters.items; states = r.states.items }) r.links.items r.claimable r.claimed };
+    ghost invariant = { λ r. IsKept (record { submitters = r.submitters.items; states = r.states.items }) r.links.items r.claimable r.claimed r.settled };
 }
 
 impl Rows {
@@ -53,6 +55,7 @@ impl Rows {
             links: Vec::new(alloc),
             claimable: RowSet::new(alloc),
             claimed: 0,
+            settled: 0,
         };
         rows.extend(alloc, txs)?;
         Ok(rows)
@@ -75,6 +78,7 @@ impl Rows {
         append_free(&mut self.states, txs.len());
         append_links(&mut self.links, links.next.as_slice());
         enter_first(&mut self.claimable, submitters.as_slice(), &links, before);
+        self.settled = before;
         Ok(())
     }
 
@@ -85,6 +89,14 @@ impl Rows {
         ensures few { result ≤ MAX_TRANSACTIONS }
     {
         self.states.len() as u32
+    }
+
+    /// How many rows there were when the last ones came. These are Done.
+    pub fn settled(&self) -> u32
+        ensures done { AreDoneBefore self.now result }
+        ensures within { result ≤ length self.now.states }
+    {
+        self.settled as u32
     }
 
     /// The state of a row; one that isn't there counts as Free with no claims.

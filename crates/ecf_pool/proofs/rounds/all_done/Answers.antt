@@ -2,6 +2,9 @@ use Rattle.std.proofs.Common.{arith}
 use Rattle.ecf_pool.proofs.RoundLaws.{all_rows}
 use Rattle.ecf_pool.proofs.rounds.all_done.Goals as goal
 
+pub loop-row-init : goal.loop-row-init
+loop-row-init c = c.settled-row.ensures.done
+
 pub returns : goal.returns
 returns c =
     let count = c.rows-row-end.ensures.rows in

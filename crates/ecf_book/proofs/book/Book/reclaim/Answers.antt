@@ -3,7 +3,7 @@ use Rattle.ecf_book.proofs.EndLaws.{known_later, reclaimed_first, reclaimed_next
 use Rattle.ecf_book.proofs.book.Book.reclaim.Goals as goal
 
 pub loop-row-init : goal.loop-row-init
-loop-row-init c = reclaimed_first c.args.self.now
+loop-row-init c = reclaimed_first c.args.self.now c.settled-settled.result c.settled-settled.ensures.done
 
 pub loop-row-preserved : goal.loop-row-preserved
 loop-row-preserved c = reclaimed_next c.args.self.now c.loop-row.self _ c.loop-row.row c.loop-row.count _ c.loop-row.invariant c.reclaim_row-count.ensures.added c.reclaim_row-count.ensures.count

@@ -11,22 +11,22 @@ use Rattle.ecf_rows.proofs.ExtendLaws.{extended_kept, kept_alike, kept_wider, fr
 use Rattle.ecf_rows.proofs.rows.Rows.extend.Goals as goal
 
 pub invariant_of-self : goal.invariant_of-self
-invariant_of-self c = kept_wider (record { submitters = c.self.inside.submitters.items; states = c.self.inside.states.items }) c.self.inside.links.items c.self.inside.claimable c.make_room.new.self c.self.inside.claimed c.self.invariant c.make_room.ensures.members c.make_room.ensures.longer
+invariant_of-self c = kept_wider (record { submitters = c.self.inside.submitters.items; states = c.self.inside.states.items }) c.self.inside.links.items c.self.inside.claimable c.make_room.new.self c.self.inside.claimed c.self.inside.settled c.self.invariant c.make_room.ensures.members c.make_room.ensures.longer
 
 pub invariant_of-self-in_err-reserve : goal.invariant_of-self-in_err-reserve
 invariant_of-self-in_err-reserve c =
-    kept_alike c.self.inside.submitters.items c.self.inside.submitters.items c.self.inside.states.items c.self.inside.states.items c.self.inside.links.items c.reserve.new.self.items c.make_room.new.self c.self.inside.claimed refl refl c.reserve.ensures.items
-    (kept_wider (record { submitters = c.self.inside.submitters.items; states = c.self.inside.states.items }) c.self.inside.links.items c.self.inside.claimable c.make_room.new.self c.self.inside.claimed c.self.invariant c.make_room.ensures.members c.make_room.ensures.longer)
+    kept_alike c.self.inside.submitters.items c.self.inside.submitters.items c.self.inside.states.items c.self.inside.states.items c.self.inside.links.items c.reserve.new.self.items c.make_room.new.self c.self.inside.claimed c.self.inside.settled refl refl c.reserve.ensures.items
+    (kept_wider (record { submitters = c.self.inside.submitters.items; states = c.self.inside.states.items }) c.self.inside.links.items c.self.inside.claimable c.make_room.new.self c.self.inside.claimed c.self.inside.settled c.self.invariant c.make_room.ensures.members c.make_room.ensures.longer)
 
 pub invariant_of-self-in_err-reserve-2 : goal.invariant_of-self-in_err-reserve-2
 invariant_of-self-in_err-reserve-2 c =
-    kept_alike c.self.inside.submitters.items c.self.inside.submitters.items c.self.inside.states.items c.reserve-2.new.self.items c.self.inside.links.items c.reserve.new.self.items c.make_room.new.self c.self.inside.claimed refl c.reserve-2.ensures.items c.reserve.ensures.items
-    (kept_wider (record { submitters = c.self.inside.submitters.items; states = c.self.inside.states.items }) c.self.inside.links.items c.self.inside.claimable c.make_room.new.self c.self.inside.claimed c.self.invariant c.make_room.ensures.members c.make_room.ensures.longer)
+    kept_alike c.self.inside.submitters.items c.self.inside.submitters.items c.self.inside.states.items c.reserve-2.new.self.items c.self.inside.links.items c.reserve.new.self.items c.make_room.new.self c.self.inside.claimed c.self.inside.settled refl c.reserve-2.ensures.items c.reserve.ensures.items
+    (kept_wider (record { submitters = c.self.inside.submitters.items; states = c.self.inside.states.items }) c.self.inside.links.items c.self.inside.claimable c.make_room.new.self c.self.inside.claimed c.self.inside.settled c.self.invariant c.make_room.ensures.members c.make_room.ensures.longer)
 
 pub invariant_of-self-in_err-extend_from_slice : goal.invariant_of-self-in_err-extend_from_slice
 invariant_of-self-in_err-extend_from_slice c =
-    kept_alike c.self.inside.submitters.items c.extend_from_slice.new.self.items c.self.inside.states.items c.reserve-2.new.self.items c.self.inside.links.items c.reserve.new.self.items c.make_room.new.self c.self.inside.claimed c.in_err-extend_from_slice.ensures.items c.reserve-2.ensures.items c.reserve.ensures.items
-    (kept_wider (record { submitters = c.self.inside.submitters.items; states = c.self.inside.states.items }) c.self.inside.links.items c.self.inside.claimable c.make_room.new.self c.self.inside.claimed c.self.invariant c.make_room.ensures.members c.make_room.ensures.longer)
+    kept_alike c.self.inside.submitters.items c.extend_from_slice.new.self.items c.self.inside.states.items c.reserve-2.new.self.items c.self.inside.links.items c.reserve.new.self.items c.make_room.new.self c.self.inside.claimed c.self.inside.settled c.in_err-extend_from_slice.ensures.items c.reserve-2.ensures.items c.reserve.ensures.items
+    (kept_wider (record { submitters = c.self.inside.submitters.items; states = c.self.inside.states.items }) c.self.inside.links.items c.self.inside.claimable c.make_room.new.self c.self.inside.claimed c.self.inside.settled c.self.invariant c.make_room.ensures.members c.make_room.ensures.longer)
 
 pub invariant_of-self-2 : goal.invariant_of-self-2
 invariant_of-self-2 c =
@@ -42,11 +42,11 @@ invariant_of-self-2 c =
     let wide : c.len-before.result + length c.in_ok-submitters.submitters.items ≤ 64 * length c.make_room.new.self = omega (arith, c.in_ok-make_room.ensures.room, count) in
     let entered : HasEntered more before (length more) c.make_room.new.self c.enter_first.new.set = subst (λ l. HasEntered l before (length l) c.make_room.new.self c.enter_first.new.set) c.as_slice-4.ensures.value c.enter_first.ensures in
     let linked : AreLinks more before 0 next = subst (λ l. AreLinks l before 0 next) c.as_slice.ensures.value c.in_ok-links.ensures.next in
-    let all = extended_kept s more c.self.inside.links.items next c.self.inside.claimable c.make_room.new.self c.enter_first.new.set c.self.inside.claimed before at c.self.invariant (λ r l. done r (Free 0) l) few c.make_room.ensures.members wide entered linked in
+    let all = extended_kept s more c.self.inside.links.items next c.self.inside.claimable c.make_room.new.self c.enter_first.new.set c.self.inside.claimed c.self.inside.settled before at c.self.invariant (λ r l. done r (Free 0) l) few c.make_room.ensures.members wide entered linked in
     let submitters : c.extend_from_slice.new.self.items ≡ c.self.inside.submitters.items ++ more = c.in_ok-extend_from_slice.ensures.items ∙ ap (λ l. c.self.inside.submitters.items ++ l) c.as_slice-2.ensures.value in
     let states : c.append_free.new.states.items ≡ c.self.inside.states.items ++ replicate (length more) (Free 0) = c.append_free.ensures ∙ ap (λ l. l ++ replicate (length c.args.txs.now) (Free 0)) c.reserve-2.ensures.items ∙ ap (λ n. c.self.inside.states.items ++ replicate n (Free 0)) (sym count) in
     let links : c.append_links.new.links.items ≡ c.self.inside.links.items ++ next = c.append_links.ensures ∙ ap (λ l. l ++ c.as_slice-3.result.now) c.reserve.ensures.items ∙ ap (λ l. c.self.inside.links.items ++ l) c.as_slice-3.ensures.value in
-    kept_alike (c.self.inside.submitters.items ++ more) c.extend_from_slice.new.self.items (c.self.inside.states.items ++ replicate (length more) (Free 0)) c.append_free.new.states.items (c.self.inside.links.items ++ next) c.append_links.new.links.items c.enter_first.new.set c.self.inside.claimed submitters states links all
+    kept_alike (c.self.inside.submitters.items ++ more) c.extend_from_slice.new.self.items (c.self.inside.states.items ++ replicate (length more) (Free 0)) c.append_free.new.states.items (c.self.inside.links.items ++ next) c.append_links.new.links.items c.enter_first.new.set c.self.inside.claimed before submitters states links all
 
 pub returns : goal.returns
 returns c =

@@ -22,7 +22,7 @@ invariant_of-self c =
     let members : (k : ℕ) → is_member c.enter_if_left.new.set k ≡ (is_member c.self.inside.claimable k || (is_left (slice_set c.self.inside.states.items c.args.row (as_freed y)) c.args.row && (k == c.args.row))) =
     λ k. c.enter_if_left.ensures.members k
     ∙ ap (λ l. is_member c.self.inside.claimable k || (is_left l c.args.row && (k == c.args.row))) (c.as_slice.ensures.value ∙ ap (slice_set c.self.inside.states.items c.args.row) c.freed.ensures) in
-    rw c.freed.ensures (free_kept s c.self.inside.links.items c.self.inside.claimable c.enter_if_left.new.set c.self.inside.claimed c.without-self-inside.result c.args.row y is c.self.invariant inside claimed less members c.enter_if_left.ensures.words)
+    rw c.freed.ensures (free_kept s c.self.inside.links.items c.self.inside.claimable c.enter_if_left.new.set c.self.inside.claimed c.without-self-inside.result c.self.inside.settled c.args.row y is c.self.invariant inside claimed less members c.enter_if_left.ensures.words)
 
 pub returns-else-at-len : goal.returns-else-at-len
 returns-else-at-len c =

@@ -23,4 +23,4 @@ invariant_of-self c =
     ∙ ap (λ n. (is_member c.self.inside.claimable k && not (k == c.args.row)) || (is_left now n && (k == n))) next in
     let words : length c.enter_if_left.new.set ≡ length c.self.inside.claimable = c.enter_if_left.ensures.words ∙ c.remove.ensures.words in
     let count : c.without-self-inside.result + one_if_claimed (state_at s c.args.row) ≡ c.self.inside.claimed = ap (λ y. c.without-self-inside.result + one_if_claimed y) (sym state) ∙ c.without-self-inside.ensures in
-    placed s links c.self.inside.claimable c.enter_if_left.new.set c.self.inside.claimed c.without-self-inside.result c.args.row c.args.seq c.self.invariant inside may members words count
+    placed s links c.self.inside.claimable c.enter_if_left.new.set c.self.inside.claimed c.without-self-inside.result c.self.inside.settled c.args.row c.args.seq c.self.invariant inside may members words count
